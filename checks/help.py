@@ -120,15 +120,18 @@ def why(words):
 
 
 def unread_rows(room):
-    """Standard error says why each file could not be read, once and by its name, and standard output says A9."""
+    """Standard error says why each file could not be read, once and by its name, and standard output says A9 and why."""
     (room / "closed").write_text(KEY)
     (room / "closed").chmod(0)
-    for name, wanted in (("none", "there is no such file"), (".", "it is a folder"), ("keys/under", "it could not be read"), ("a\nb", "there is no such file"), ("closed", "it may not be read")):
+    for name, wanted, listed in (
+        ("none", "there is no such file", "not found"), (".", "it is a folder", "a folder"), ("keys/under", "it could not be read", "not readable"),
+        ("a\nb", "there is no such file", "not found"), ("closed", "it may not be read", "no permission"),
+    ):
         if name == "closed" and os.geteuid() == 0:
             continue
         shown = name.replace("\n", "\\x0a")
         status, printed, errors = run(["review", "--kind", "auth", "--now", "1", "--zone", "UTC0", "keys", name], room)
-        check(f"why: {shown}", (status, f"{shown}: fault A9\n" in printed.decode(), errors.splitlines()[1:]), (2, True, [f"ssh_audit: {shown}: {wanted}"]))
+        check(f"why: {shown}", (status, f"{shown}: fault A9: {listed}\n" in printed.decode(), errors.splitlines()[1:]), (2, True, [f"ssh_audit: {shown}: {wanted}"]))
     status, _, errors = run(["review", "--kind", "auth", "--now", "1", "--zone", "UTC0", "none", "keys", ".", "none"], room)
     check("why: each in its turn", errors.splitlines()[1:], [f"ssh_audit: {told}" for told in ("none: there is no such file", ".: it is a folder", "none: there is no such file")])
     check("why: nothing of a file that is read", run(["review", "--kind", "auth", "--now", "1", "--zone", "UTC0", "keys"], room)[2], "")
@@ -164,6 +167,42 @@ def list_faults():
     yield b"keys\0-\0", "name 2 is -, and standard input is no name in a list"
     yield b"keys\n\xff\n", "it is not UTF-8"
     yield bytes(67_108_865), "it is longer than 67108864 bytes"
+
+
+LABELS = ["--labels", "host,account"]
+
+
+def labelled_faults():
+    """The bytes of a list whose names are to have labels, and what is said of it."""
+    yield b"keys\n", "name 1 has no host and account, each with a tab behind it"
+    yield b"web\tann\tkeys\nweb\tkeys\n", "name 2 has no host and account, each with a tab behind it"
+    yield b"web\tann\t\n", "name 1 is empty"
+    yield b"web\tann\t-\n", "name 1 is -, and standard input is no name in a list"
+
+
+def labels(room):
+    """Names with host and account: the records are those of the file, and begin with both. The words say it as a list does."""
+    (room / "a\tb").write_text(KEY)
+    for name, host, account in (("keys", "web1", "ann"), ("keys", "", ""), ("missing", "web\\1", "\u00e9"), ("a\tb", "web1", "ann b")):
+        word = f"{host}\t{account}\t{name}"
+        shown = [part.encode().decode("latin1") for part in (account, host, name)]
+        shown = ["".join(letter if " " <= letter < "\x7f" and letter != "\\" else f"\\x{ord(letter):02x}" for letter in part) for part in shown]
+        for form, front, wanted in (("text", f"{shown[2]}:", f"{shown[0]}@{shown[1]}:{shown[2]}:"), ("json", f'{{"file":"{shown[2]}",'.replace("\\", "\\\\"), None)):
+            if wanted is None:
+                shown = [part.replace("\\", "\\\\") for part in shown]
+                wanted = f'{front}"host":"{shown[1]}","account":"{shown[0]}",'
+            status, plain, errors = run([*ASKED, "--form", form, "--", name], room)
+            lines = [wanted + line[len(front):] if line.startswith(front) else line for line in plain.decode().split("\n")]
+            (room / "listed").write_bytes(word.encode() + b"\n")
+            for words in (["--files-from", "listed"], ["--", word]):
+                found = run([*ASKED, *LABELS, "--form", form, *words], room)
+                check(f"labels of {word!r} by {words[0]} as {form}", found, (status, "\n".join(lines).encode(), errors))
+    for given, said in labelled_faults():
+        (room / "listed").write_bytes(given)
+        wanted = 2, b"fault value files-from\n", f"{WANTS}ssh_audit: listed: {said}\n"
+        check(f"labels in a list of {given}", run([*ASKED, *LABELS, "--files-from", "listed"], room), wanted)
+    for words in (["--labels", "account,host", "--", "web\tann\tkeys"], [*LABELS, "keys"], [*LABELS, "--", "web\tann\tkeys", "web\tkeys"]):
+        check(f"labels: {words}", run([*ASKED, *words], room)[:2], (2, b"fault value labels\n"))
 
 
 def lists(room):
@@ -350,6 +389,7 @@ def main():
             check(" ".join(words), (status, found.decode()[: len(printed)], errors[: len(wanted)], told[1:]), (2, printed, wanted, why(words)))
         unread_rows(room)
         lists(room)
+        labels(room)
         help_rows(room)
         defaults(room)
     print(f"{passed} passed, {failed} failed")

@@ -30,6 +30,7 @@ LISTS = {
     "review form": [FORMS, ("ssh_program/src/review_form.rt", "is_page")],
     "form": [FORMS],
     "show": [("ssh_program/src/review_show.rt", "read_show")],
+    "labels": [("ssh_program/src/naming.rt", "read_naming")],
     "empty-principals": [("ssh_files/src/values.rt", "read_empty_principals")],
     "findings": [("ssh_findings/src/code.rt", "parse_codes")],
     "fail-on": [("ssh_findings/src/code.rt", "parse_codes")],
@@ -40,7 +41,7 @@ CODES = {"findings", "fail-on"}
 OPEN = {"BASE64", "HEX", "FINGERPRINT", "NAME", "ADDRESS", "SECONDS", "RULE", "BITS", "PORT", "TEXT"}
 # What the machine knows of such a value.
 KNOWN = {"user": "users", "host": "hosts"}
-WORD = re.compile(r'\w+ == b?"([\w-]+)"')
+WORD = re.compile(r'\w+ == b?"([\w,-]+)"')
 SENTENCE = re.compile(r'Subcommand::(\w+) =>\s*(?:\{\s*)?b"([^"]*)"')
 FINDING = re.compile(r"F\d+")
 

@@ -310,7 +310,8 @@ def given(command, rows, option, word):
     wanted |= {"key"} if command == "admits" and option != "--fingerprint" else set()
     values = {name: GOOD.get(name, "keys") for name in rows if name[2:] in wanted}
     values[option] = word
-    operands = ["keys"] if command in make_completion.make_manual_page.operands() else []
+    name = "web1\tann\tkeys" if option == "--labels" else "keys"
+    operands = [name] if command in make_completion.make_manual_page.operands() else []
     return [command, *(part for pair in values.items() for part in pair), *operands]
 
 

@@ -147,13 +147,18 @@ def counted(read):
     return collections.Counter(limit["text"].split(":")[0].split()[0] for limit in limits if "f" in limit["classes"])
 
 
+def why_behind(cell):
+    """Why a file could not be read, as it stands behind the code of its fault; by what the register says of it."""
+    return next((f": {why}" for why, meaning in reference_page.CAUSES.items() if cell.endswith(f": {meaning}")), "")
+
+
 def text_form(read, kind, has_codes):
     """The text form, made anew from the page; some have a line for each code that was found, the most urgent first."""
     lines = []
     for file, (_, _, *cells) in zip(read["files"], read["register"]):
         for row in file["rows"]:
             lines += record_text(file["name"], row, kind)
-        lines.append(f"{file['name']}: {file['fault']}" if file["fault"] else f"{file['name']}: {file['says']}, sha256 {cells[-1]}")
+        lines.append(f"{file['name']}: {file['fault']}{why_behind(cells[0])}" if file["fault"] else f"{file['name']}: {file['says']}, sha256 {cells[-1]}")
     if has_codes:
         found = counted(read)
         lines += [f"{code}: {found[code]}, {reference_page.MEANS[code]}" for code in sorted(found, key=lambda code: (reference_page.SOON[code], int(code[1:])))]

@@ -9,6 +9,7 @@ of two quarters. The files of one machine are those of made-up accounts, by a co
 wants /run/sshd: it is made where it is missing). The gate and the hook are tried on git repositories, and a real sshd is asked with the
 page's own lines of sshd_config. Needs bash, jq, git, ssh, ssh-keygen, sshd, openssl 3 and the built program. What wants sqlite3, ansible-playbook or systemd-analyze is left out where
 that is missing, which a line says. The last line is 'N passed, M failed'; the status is 0 where nothing failed."""
+import collections
 import hashlib
 import json
 import os
@@ -246,11 +247,13 @@ def wanted(room, marks):
     """What each section's block prints."""
     access = [(marks[key], file, line, what, rights, command or "any", source or "any", TOLD[key]) for file, line, key, what, rights, command, source in ACCESS]
     unused = {key for _, _, key, what, *_ in ACCESS if what == "key"} - set(USED)
+    owners = collections.Counter((file.split("/")[2], file.split("/")[1]) for file, key in {(file, key) for file, _, key, *_ in ACCESS})
     counts = "".join(f"      1 {code}\n" for code in ("F1", "F4", "F5", "F6", "F9"))
     return {
         "Which files count": machine_review(room, marks),
         "What changed on one machine": f"gone or changed:\nnew or changed:\n{machine_list(room, marks)}",
         LIST: "2\n2\n",
+        "Whose file it is": "".join(f"{count:7} {account}\t{host}\n" for (account, host), count in sorted(owners.items())),
         "From many machines": "",
         "Who has access": table(access) + marks["backup"] + "\n",
         "What changed since the last quarter": "gone or changed:\n" + changes(GONE, marks) + "new or changed:\n" + changes(NEW, marks),

@@ -28,7 +28,12 @@ WHAT = {"auth": "authorized_keys: who is let in", "known": "known_hosts: which h
 TITLES = {"auth": "Access review of SSH keys", "known": "Review of trusted SSH host keys"}
 FAULTS = {
     "A7": "it has more than 67,108,864 bytes: split it, or drop comments",
-    "A9": "it cannot be read: look at its name and its rights; a folder is not a file",
+}
+CAUSES = {
+    "not found": "there is no such file: look at its name",
+    "no permission": "it may not be read: look at its permissions",
+    "a folder": "it is a folder: name the files in it",
+    "not readable": "it could not be read: look at the disk",
 }
 UNREADABLE = {"unreadable", "revocation-unreadable"}
 RIGHTS = ("port", "agent", "x11", "pty", "rc")
@@ -386,11 +391,16 @@ def counts(end):
     return f"{end['lines']} lines, {end['key_lines']} key lines, {end['unreadable']} unreadable, {end['findings']} findings"
 
 
+def meaning(end):
+    """What the fault of a file means, and what to do."""
+    return CAUSES[end["why"]] if end["why"] else FAULTS[end["fault"]]
+
+
 def put_section(page, file, records, end, kind):
     whats = {made["what"] for made in records}
     page.put("Section", *["UnreadableClass"] * bool(whats & UNREADABLE), *["AuthorityClass"] * ("authority" in whats)).put("FileId").say(file).put("SectionName").tell(end["file"]).put("SectionSays")
     if end["fault"]:
-        page.put("Fault").say(f"fault {end['fault']}").put("FaultEnd").say(f"{FAULTS[end['fault']]}. Nothing else is told of this file.").put("SectionEnd")
+        page.put("Fault").say(f"fault {end['fault']}").put("FaultEnd").say(f"{meaning(end)}. Nothing else is told of this file.").put("SectionEnd")
         return
     page.say(counts(end)).put(kind if records else "SectionEnd")
     for made in records:
@@ -402,7 +412,7 @@ def put_section(page, file, records, end, kind):
 def put_register_row(page, file, end):
     page.put("FileRow").say(file).put("FileName").tell(end["file"])
     if end["fault"]:
-        page.put("FaultCell").say(f"fault {end['fault']}: {FAULTS[end['fault']]}").put("FaultCellEnd")
+        page.put("FaultCell").say(f"fault {end['fault']}: {meaning(end)}").put("FaultCellEnd")
         return
     cells = [end[name] for name in ("lines", "key_lines", "unreadable", "findings")]
     page.put("FirstCount").say(cells[0])

@@ -38,7 +38,7 @@ DEFAULT = pathlib.Path(program.CRATE) / "out" / "ssh_audit"
 RIGHTS = ("port", "agent", "x11", "pty", "rc")
 AUTH_FIELDS = ["file", "line", "what", "type", "bits", "key", "comment", "options", "rights", "command", "source", "principals", "expires", "shadowed_by", "lets_in", "findings"]
 KNOWN_FIELDS = ["file", "line", "what", "type", "bits", "key", "comment", "names", "findings"]
-END_FIELDS = ["file", "what", "lines", "key_lines", "unreadable", "findings", "sha256", "fault"]
+END_FIELDS = ["file", "what", "lines", "key_lines", "unreadable", "findings", "sha256", "fault", "why"]
 TOTAL_FIELDS = ["what", "format", "program", "kind", "rsa_minimum", "told", "now", "at", "zone", "files", "faults", "faults_by_code", "lines", "key_lines", "unreadable", "findings", "findings_by_code"]
 # The first moment of 2026 in UTC, which an expiry time of that day names.
 NEW_YEAR = 1_767_225_600
@@ -102,7 +102,7 @@ web1/ann:10: key ssh-rsa 2048 SHA256:Bfvk8D9yagody1EbQdzAz5byw0A51qzcCWURIjCLnN4
     verify-required
     F8 verify-required: OpenSSH lets this key in: it ignores verify-required of a key that is no security key
 web1/ann: 10 lines, 8 key lines, 1 unreadable, 6 findings, sha256 a3b51c142bcda45a43c1dd1d736f45ea9554b013929818c32d1e1950dbd33041
-web1/none: fault A9
+web1/none: fault A9: not found
 F1: 1, the line cannot be read here, and OpenSSH may read it; the L code follows
 F4: 1, the line never decides: line K has the same key, lets it in first and gives more
 F8: 1, OpenSSH reads the line otherwise: principals= without cert-authority, empty-principal in the list, verify-required of a key that is no security key, local-time of an expiry time without Z where no --zone is given, short-address in from= (127.1), tab after a marker, type of a revocation that is not its key's
@@ -121,8 +121,8 @@ WORKED_JSON = r"""{"file":"web1/ann","line":2,"what":"key","type":"ssh-ed25519",
 {"file":"web1/ann","line":8,"what":"authority","type":"ssh-ed25519","bits":null,"key":"SHA256:VySy8OgtRCL1Xyc8Pmw64Uan5/UBdBZUOemVHS+WeUo","comment":"ca@example","options":"cert-authority","rights":"port agent x11 pty rc","command":null,"source":null,"principals":null,"expires":null,"shadowed_by":null,"lets_in":true,"findings":[]}
 {"file":"web1/ann","line":9,"what":"unreadable","type":"ssh-ed25519","bits":null,"key":"SHA256:nvuWTLJLbG342Ro/cJyRt1aPYE9mITXTARX8I/yh8QQ","comment":null,"options":null,"rights":null,"command":null,"source":null,"principals":null,"expires":null,"shadowed_by":null,"lets_in":true,"findings":[{"code":"F1","detail":"L3"}]}
 {"file":"web1/ann","line":10,"what":"key","type":"ssh-rsa","bits":2048,"key":"SHA256:Bfvk8D9yagody1EbQdzAz5byw0A51qzcCWURIjCLnN4","comment":"","options":"verify-required","rights":"port agent x11 pty rc","command":null,"source":null,"principals":null,"expires":null,"shadowed_by":null,"lets_in":true,"findings":[{"code":"F8","detail":"verify-required"}]}
-{"file":"web1/ann","what":"end","lines":10,"key_lines":8,"unreadable":1,"findings":6,"sha256":"a3b51c142bcda45a43c1dd1d736f45ea9554b013929818c32d1e1950dbd33041","fault":null}
-{"file":"web1/none","what":"end","lines":0,"key_lines":0,"unreadable":0,"findings":0,"sha256":null,"fault":"A9"}
+{"file":"web1/ann","what":"end","lines":10,"key_lines":8,"unreadable":1,"findings":6,"sha256":"a3b51c142bcda45a43c1dd1d736f45ea9554b013929818c32d1e1950dbd33041","fault":null,"why":null}
+{"file":"web1/none","what":"end","lines":0,"key_lines":0,"unreadable":0,"findings":0,"sha256":null,"fault":"A9","why":"not found"}
 {"what":"total","format":2,"program":"ssh_audit 1.0.0","kind":"auth","rsa_minimum":2048,"told":["F1","F2","F3","F4","F5","F6","F7","F8","F9","F10","F11","F12","F13","F14","F22"],"now":1770000000,"at":"2026-02-02T02:40:00Z","zone":"UTC0","files":2,"faults":1,"faults_by_code":{"A9":1},"lines":10,"key_lines":8,"unreadable":1,"findings":6,"findings_by_code":{"F1":1,"F4":1,"F5":1,"F6":1,"F8":1,"F9":1}}
 """
 
@@ -137,7 +137,7 @@ F9: 1, the line's command is forced, but it may still forward: add restrict
 total: 1 files, 0 faults, 1 lines, 1 key lines, 0 unreadable, 1 findings, asked at 1770000000 2026-02-02T02:40:00Z, zone UTC0
 """
 ODD_JSON = r"""{"file":"odd","line":1,"what":"key","type":"ssh-ed25519","bits":null,"key":"SHA256:gXMk5B5PxTYWe+Q7kQzHGRTNDb0nrzC3BLT7EPMvKSg","comment":"m\\xc3\\xbcller\\x1b[2J\\xff","options":"command=\"a\\x5cb \\x5c\"c\\x5c\" \\xc3\\xa4\"","rights":"port agent x11 pty rc","command":"a\\x5cb \"c\" \\xc3\\xa4","source":null,"principals":null,"expires":null,"shadowed_by":null,"lets_in":true,"findings":[{"code":"F9","detail":""}]}
-{"file":"odd","what":"end","lines":1,"key_lines":1,"unreadable":0,"findings":1,"sha256":"886bbc8ffa56bed5a1030ccd048549abedd0932d9d3863db4d887f07638f2910","fault":null}
+{"file":"odd","what":"end","lines":1,"key_lines":1,"unreadable":0,"findings":1,"sha256":"886bbc8ffa56bed5a1030ccd048549abedd0932d9d3863db4d887f07638f2910","fault":null,"why":null}
 {"what":"total","format":2,"program":"ssh_audit 1.0.0","kind":"auth","rsa_minimum":2048,"told":["F1","F2","F3","F4","F5","F6","F7","F8","F9","F10","F11","F12","F13","F14","F22"],"now":1770000000,"at":"2026-02-02T02:40:00Z","zone":"UTC0","files":1,"faults":0,"faults_by_code":{},"lines":1,"key_lines":1,"unreadable":0,"findings":1,"findings_by_code":{"F9":1}}
 """
 POLICY = r"""web1/ann:2: key ssh-ed25519 SHA256:gXMk5B5PxTYWe+Q7kQzHGRTNDb0nrzC3BLT7EPMvKSg laptop@example
@@ -199,7 +199,7 @@ HOSTS_JSON = r"""{"file":"known","line":2,"what":"key","type":"ssh-ed25519","bit
 {"file":"known","line":8,"what":"revocation-unreadable","type":null,"bits":null,"key":null,"comment":null,"names":null,"findings":[{"code":"F10","detail":""}]}
 {"file":"known","line":9,"what":"unreadable","type":"ssh-ed25519","bits":null,"key":"SHA256:K1O2eINbmb17fEiDcz4h4FqkT185rAHrxyBBdF4KQT8","comment":null,"names":null,"findings":[{"code":"F1","detail":"L16"}]}
 {"file":"known","line":10,"what":"key","type":"ssh-ed25519","bits":null,"key":"SHA256:K1O2eINbmb17fEiDcz4h4FqkT185rAHrxyBBdF4KQT8","comment":"","names":"[git.example.org]:2222","findings":[]}
-{"file":"known","what":"end","lines":10,"key_lines":6,"unreadable":2,"findings":6,"sha256":"256b6d0a7a61116a5090af644595ba7ab28f34ef7693844bf761f174a13ea6fa","fault":null}
+{"file":"known","what":"end","lines":10,"key_lines":6,"unreadable":2,"findings":6,"sha256":"256b6d0a7a61116a5090af644595ba7ab28f34ef7693844bf761f174a13ea6fa","fault":null,"why":null}
 {"what":"total","format":2,"program":"ssh_audit 1.0.0","kind":"known","rsa_minimum":2048,"told":["F1","F2","F3","F4","F5","F6","F7","F8","F9","F10","F11","F12","F13","F14","F22"],"now":1770000000,"at":"2026-02-02T02:40:00Z","zone":"UTC0","files":1,"faults":0,"faults_by_code":{},"lines":10,"key_lines":6,"unreadable":2,"findings":6,"findings_by_code":{"F1":1,"F10":1,"F11":1,"F12":1,"F13":1,"F14":1}}
 """
 
@@ -696,7 +696,8 @@ def end_lines(made):
     if made["what"] == "total":
         found = [f"{code}: {made['findings_by_code'][code]}" for code in WORST_FIRST if code in made["findings_by_code"]]
         return [*found, f"total: {made['files']} files, {made['faults']} faults, {counts}, {asked_at(made['now'], made['zone'])}"]
-    return [f"{made['file']}: fault {made['fault']}" if made["fault"] else f"{made['file']}: {counts}, sha256 {made['sha256']}"]
+    why = f": {made['why']}" if made["why"] else ""
+    return [f"{made['file']}: fault {made['fault']}{why}" if made["fault"] else f"{made['file']}: {counts}, sha256 {made['sha256']}"]
 
 
 LEFT_OUT = re.compile(r"    (carry .*|no-touch-required|verify-required|in ssh it counts for these names alone)")
@@ -1019,12 +1020,12 @@ def name_rows(audit, tally):
         ("an empty file", ["empty"], EMPTY + total_text(1), 0, b""),
         ("standard input twice", ["-", "-"], key_text("-") + end_text("-", KEY_LINE) + end_text("-", b"", 0, 0) + total_text(2, 0, 1, 1), 0, KEY_LINE),
         ("no LF at the end", ["-"], key_text("-") + end_text("-", KEY_LINE[:-1]) + total_text(1, 0, 1, 1), 0, KEY_LINE[:-1]),
-        ("a missing file first", ["missing", "key"], "missing: fault A9\n" + ONE + total_text(2, 1, 1, 1), 2, b""),
-        ("a missing file last", ["key", "missing"], ONE + "missing: fault A9\n" + total_text(2, 1, 1, 1), 2, b""),
-        ("a folder", [".", "key"], ".: fault A9\n" + ONE + total_text(2, 1, 1, 1), 2, b""),
+        ("a missing file first", ["missing", "key"], "missing: fault A9: not found\n" + ONE + total_text(2, 1, 1, 1), 2, b""),
+        ("a missing file last", ["key", "missing"], ONE + "missing: fault A9: not found\n" + total_text(2, 1, 1, 1), 2, b""),
+        ("a folder", [".", "key"], ".: fault A9: a folder\n" + ONE + total_text(2, 1, 1, 1), 2, b""),
         ("a file without an end", ["/dev/zero", "key"], "/dev/zero: fault A7\n" + ONE + total_text(2, 1, 1, 1), 2, b""),
         ("a line break in a name", ["a\nb"], key_text("a\\x0ab") + end_text("a\\x0ab", KEY_LINE) + total_text(1, 0, 1, 1), 0, b""),
-        ("a missing name with a line break", ["c\nd: 9 lines"], "c\\x0ad: 9 lines: fault A9\n" + total_text(1, 1), 2, b""),
+        ("a missing name with a line break", ["c\nd: 9 lines"], "c\\x0ad: 9 lines: fault A9: not found\n" + total_text(1, 1), 2, b""),
         ("UTF-8 and a backslash in a name", ["\u00e9\\"], key_text("\\xc3\\xa9\\x5c") + end_text("\\xc3\\xa9\\x5c", KEY_LINE) + total_text(1, 0, 1, 1), 0, b""),
     ):
         tally.check(f"names: {what}", audit.run(review(*names), given), (status, wanted.encode(), b""))

@@ -111,7 +111,7 @@ def list_rows(audit, tally, names):
     (audit.room / "listed").write_text("".join(f"/no/such/folder/{number:040}/authorized_keys\n" for number in range(LISTED)))
     (status, text), took, most = cost_of(audit, meter, review(findings="none", files_from="listed"))
     total = f"total: {LISTED} files, {LISTED} faults, 0 lines, ".encode()
-    tally.check(f"a list of {LISTED} names", (status, text.count(b": fault A9\n"), text.rpartition(b"\n")[0].rpartition(b"\n")[2].startswith(total)), (2, LISTED, True))
+    tally.check(f"a list of {LISTED} names", (status, text.count(b": fault A9: not found\n"), text.rpartition(b"\n")[0].rpartition(b"\n")[2].startswith(total)), (2, LISTED, True))
     tally.check(f"a list of {LISTED} names in {most} KiB", most <= LISTED * NAME_ROOM // 1024, True)
 
 

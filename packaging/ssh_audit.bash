@@ -30,7 +30,7 @@ _ssh_audit() {
     hash) options='--file --salts' ;;
     admits) options='--key --fingerprint --user --address --now --host --zone --empty-principals --rsa-minimum --form' operands=files ;;
     trusts) options='--key --host --now --port --empty-principals --rsa-minimum --form' operands=files ;;
-    review) options='--kind --now --key --zone --rsa-minimum --findings --fail-on --show --form --title --files-from' operands=files ;;
+    review) options='--kind --now --key --zone --rsa-minimum --findings --fail-on --show --form --title --labels --files-from' operands=files ;;
     explain) operands=codes ;;
     esac
     [[ $given != -- ]] || option=
@@ -59,6 +59,7 @@ _ssh_audit() {
             done
             ;;
         *' --show') words='all found totals' ;;
+        *' --labels') words='host,account' ;;
         esac
     elif [[ $given != -- && ($word == -* || -z $operands) ]]; then
         for at in $options --help; do

@@ -114,7 +114,7 @@ def has_one_status_over_several_files(asker):
             for names, status in ((["empty"], 0), (["empty", "f"], 1), (["f", "empty"], 1), (["f", "missing"], 2), (["missing", "f"], 2), (["missing"], 2)):
                 found, answer, errors = asker.program.run(review(*names, kind=kind, key=K0_MARK))
                 asker.check(f"{names} in {kind}", (found, errors), (status, b""))
-                parts = [here[: here.index("\nF") + 1] if name == "f" else f"{name}: fault A9\n" if name == "missing" else end_text(name, b"") for name in names]
+                parts = [here[: here.index("\nF") + 1] if name == "f" else f"{name}: fault A9: not found\n" if name == "missing" else end_text(name, b"") for name in names]
                 asker.check(f"what is printed of {names} in {kind}", re.split(r"^(?:F\d+|total): ", answer.decode(), maxsplit=1, flags=re.MULTILINE)[0], "".join(parts))
 
 

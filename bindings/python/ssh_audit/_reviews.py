@@ -44,7 +44,7 @@ class Record:
 
 @dataclass(frozen=True)
 class FileEnd:
-    """The end of a file: its counts and the SHA-256 of its bytes in hexadecimal; or `fault`, as `A7`."""
+    """The end of a file: its counts and the SHA-256 of its bytes in hexadecimal; or `fault`, as `A7`, and of `A9` `why`, as `not found`."""
 
     file: str
     lines: Optional[int]
@@ -53,6 +53,7 @@ class FileEnd:
     findings: Optional[int]
     sha256: Optional[str]
     fault: Optional[str]
+    why: Optional[str]
 
 
 @dataclass(frozen=True)
@@ -110,7 +111,7 @@ def _record(told: Dict[str, Any], file: str) -> Record:
 
 
 def _end(told: Dict[str, Any], file: str) -> FileEnd:
-    counts = (told.get(name) for name in ("lines", "key_lines", "unreadable", "findings", "sha256", "fault"))
+    counts = (told.get(name) for name in ("lines", "key_lines", "unreadable", "findings", "sha256", "fault", "why"))
     return FileEnd(file, *counts)
 
 

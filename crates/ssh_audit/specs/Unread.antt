@@ -2,6 +2,8 @@
 use Rattle.std.specs.Prelude.{◌++◌, ◌&&◌, ℕ, List, codes, if◌then◌else◌, length, nat_lt}
 use Rattle.std.specs.declared.io.ErrorKind.{ErrorKind}
 use Rattle.std.specs.declared.io.ErrorKind.TheVariants.{NotFound, PermissionDenied, IsADirectory}
+use Rattle.ssh_files.specs.declared.files.UnreadCause.{UnreadCause}
+use Rattle.ssh_files.specs.declared.files.UnreadCause.TheVariants as cause
 use Rattle.ssh_print.specs.Texts.{escaped_text}
 
 -- why it could not be read, by the error of the system (open(2), read(2): ENOENT, EACCES, EISDIR, and all others)
@@ -10,6 +12,13 @@ why NotFound = codes "there is no such file"
 why PermissionDenied = codes "it may not be read"
 why IsADirectory = codes "it is a folder"
 why _ = codes "it could not be read"
+
+-- the same for the list of a review
+abbrev pub cause_of_kind : ErrorKind → UnreadCause
+cause_of_kind NotFound = cause.NotFound
+cause_of_kind PermissionDenied = cause.PermissionDenied
+cause_of_kind IsADirectory = cause.IsADirectory
+cause_of_kind _ = cause.Other
 
 abbrev pub unread_line : List ℕ → ErrorKind → List ℕ
 unread_line name kind = codes "ssh_audit: " ++ escaped_text name ++ codes ": " ++ why kind ++ codes "\n"

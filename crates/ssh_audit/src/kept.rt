@@ -5,9 +5,9 @@ ghost use Rattle.ssh_audit.specs.KeptBytes.{bytes_if};
 ghost use Rattle.ssh_audit.specs.declared.kept.Keeping.TheVariants.{No, Yes};
 ghost use Rattle.std.specs.Io.{ReadsAtMost};
 ghost use Rattle.std.specs.Io.KnownBytes.{ReadConsumes};
-ghost use Rattle.ssh_files.specs.SourceState.{ChoosesKnown, ReadsKnown, bytes_at};
+ghost use Rattle.ssh_files.specs.SourceState.{ChoosesKnown, ReadsKnown, bytes_at, cause_at};
 
-use ssh_files::Files;
+use ssh_files::{Files, UnreadCause};
 use std::alloc::Global;
 use std::io::{Read, Result};
 
@@ -101,6 +101,12 @@ impl<F: Files> Files for KeptFiles<F> {
 
     fn is_regular(&self, name: &str) -> bool {
         self.files.is_regular(name)
+    }
+
+    fn unread_cause(&self, name: &str) -> UnreadCause
+        ensures { IfSome None (λ s. result ≡ cause_at s name.now) }
+    {
+        self.files.unread_cause(name)
     }
 
     fn read_chosen(&mut self, buf: &mut [u8]) -> Result<usize>

@@ -1,7 +1,10 @@
 -- Sources with the same files, the same input and the same counts tell the same, and what reads that did not fail leave.
 use Rattle.ssh_files.specs.Loading.{ReadToEnd}
+use Rattle.ssh_files.specs.SourceState.{bytes_of, cause_at, cause_of, given_at}
+use Rattle.ssh_files.specs.declared.files.UnreadCause.{UnreadCause}
+use Rattle.std.specs.Prelude.{Err, IfSome, Ok, Result, if◌then◌else◌}
 use Rattle.std.proofs.Common.{is_some}
-use Rattle.ssh_files.proofs.Imports.{◌≡◌, ◌∙◌, ◌+◌, ℕ, Bool, true, false, cond, List, [], length, Option, Some, None, refl, sym, ap, nat_lt, bytes_eq, lt-ltb, SourceState, bytes_at, dash, next_choice, after_whole, KeepsOthers, NoReadFailed, OneReadFailed, IsLeft, IsTooLong, within_limit, file_limit}
+use Rattle.ssh_files.proofs.Imports.{◌≡◌, ◌∙◌, ◌+◌, ℕ, Bool, true, false, cond, List, [], length, Option, Some, None, refl, sym, ap, nat_lt, bytes_eq, lt-ltb, IfTells, SourceState, bytes_at, dash, next_choice, after_whole, KeepsOthers, NoReadFailed, OneReadFailed, IsLeft, IsTooLong, within_limit, file_limit}
 
 -- ---- the same but for what is chosen
 
@@ -17,6 +20,9 @@ alike-same s = record { named = refl; input = refl; failures = refl; choices = r
 pub file-alike : (a b : SourceState) (name : List ℕ) → Alike a b → bytes_at a name ≡ bytes_at b name
 file-alike a b name h = rw (h.named, h.input) refl
 
+pub given-alike : (a b : SourceState) (name : List ℕ) → Alike a b → given_at a name ≡ given_at b name
+given-alike a b name h = rw (h.named, h.input) refl
+
 pub whole-alike : (a b : SourceState) (name : List ℕ) → Alike a b → Alike (after_whole a name) (after_whole b name)
 whole-alike a b name h = record {
   named = h.named;
@@ -24,6 +30,22 @@ whole-alike a b name h = record {
   failures = h.failures;
   choices = ap next_choice h.choices;
 }
+
+-- ---- why a file is not read
+
+-- a reading of the file does not change it
+cause-kept : (name : List ℕ) (s t : SourceState) (b : Bool) → t.named ≡ s.named → cause_of (if b then Ok t.input else t.named name) ≡ cause_of (if b then Ok s.input else s.named name)
+cause-kept name s t true same = refl
+cause-kept name s t false same = ap (λ (f : List ℕ → Result (List ℕ) UnreadCause). cause_of (f name)) same
+
+pub cause-before : (name : List ℕ) (cause : UnreadCause) (o t : Option SourceState) → IfTells o (λ s. KeepsOthers name s t) → IfSome t (λ u. cause ≡ cause_at u name) → IfTells o (λ s. cause ≡ cause_at s name)
+cause-before name cause None t keeps is = tt
+cause-before name cause (Some s) None keeps is = λ counts. absurd (keeps counts)
+cause-before name cause (Some s) (Some u) keeps is = λ counts. is ∙ cause-kept name s u (bytes_eq name dash) (keeps counts).0.0
+
+pub given-none : (given : Result (List ℕ) UnreadCause) → bytes_of given ≡ None → given ≡ Err (cause_of given)
+given-none (Err cause) h = refl
+given-none (Ok bytes) h = cc
 
 -- ---- failed reads, and those that did not fail
 
@@ -77,3 +99,7 @@ short-by false bytes file h = cc
 pub read-all : (bytes : Option (List ℕ)) (file : List ℕ) → within_limit bytes ≡ Some file → bytes ≡ Some file
 read-all None file h = cc
 read-all (Some bytes) file h = ap (λ b. Some b) (short-by (nat_lt file_limit (length bytes)) bytes file h)
+
+pub given-all : (given : Result (List ℕ) UnreadCause) (file : List ℕ) → within_limit (bytes_of given) ≡ Some file → given ≡ Ok file
+given-all (Err cause) file h = cc
+given-all (Ok bytes) file h = ap (λ b. Ok b) (short-by (nat_lt file_limit (length bytes)) bytes file h)

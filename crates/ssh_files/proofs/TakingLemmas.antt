@@ -3,6 +3,7 @@ use Rattle.ssh_files.proofs.Imports.{◌≡◌, ◌∙◌, ◌++◌, ◌+◌, �
 use Rattle.ssh_files.proofs.Reading.{IsReading}
 use Rattle.ssh_files.specs.Loading.{KeepsOthers}
 use Rattle.ssh_files.specs.SourceState.{dash, open_file}
+use Rattle.ssh_files.specs.declared.files.UnreadCause.{UnreadCause}
 use Rattle.std.proofs.Common.{bytes_eq, []}
 
 -- it took so many bytes, and what is left are the others
@@ -73,9 +74,9 @@ input-kept nothing s left other = refl
 input-kept standard_input s left other = absurd (other refl)
 input-kept (named_file name bytes) s left other = refl
 
-opened : (name : List ℕ) (o : Option (List ℕ)) → open_file name o ≡ standard_input → ⊥
-opened name None h = cc
-opened name (Some bytes) h = cc
+opened : (name : List ℕ) (given : Result (List ℕ) UnreadCause) → open_file name given ≡ standard_input → ⊥
+opened name (Err cause) h = cc
+opened name (Ok bytes) h = cc
 
 not-input : (s : SourceState) (name : List ℕ) (b : Bool) → bytes_eq name dash ≡ b → b ≡ false → (choosing s name).chosen ≡ standard_input → ⊥
 not-input s name true e h c = cc

@@ -2,7 +2,7 @@
 use Rattle.std.specs.Prelude.{◌==◌, ◌&&◌, ℕ, Bool, true, List, [], ◌∷◌, Option, Some, if◌then◌else◌}
 use Rattle.std.specs.List.{list_any}
 use Rattle.std.specs.Str.{bytes_eq}
-use Rattle.ssh_files.specs.SourceState.{SourceState, dash, next_choice}
+use Rattle.ssh_files.specs.SourceState.{SourceState, bytes_of, dash, next_choice}
 
 -- the bytes up to the end of the first empty line, and those after it; `fresh` means that a line begins here
 abbrev pub cut_at_empty : Bool → List ℕ → List ℕ × List ℕ
@@ -12,7 +12,7 @@ cut_at_empty fresh (b ∷ input) = if fresh && b == 10 then (10 ∷ [], input)
 
 -- the bytes of the vouch file: on standard input it ends with the first empty line
 abbrev pub part_at : SourceState → List ℕ → Option (List ℕ)
-part_at s name = if bytes_eq name dash then Some (cut_at_empty true s.input).0 else s.named name
+part_at s name = if bytes_eq name dash then Some (cut_at_empty true s.input).0 else bytes_of (s.named name)
 
 -- the source after a file was read: one more was chosen, and of standard input this is left
 abbrev pub after_reading : SourceState → List ℕ → SourceState

@@ -1,6 +1,8 @@
 -- What a source of files holds, and how `choose` and `read_chosen` change it.
-use Rattle.std.specs.Prelude.{◌≡◌, ◌++◌, ◌+◌, ◌%◌, ◌^◌, ◌<◌, ℕ, List, [], ◌∷◌, Option, Some, None, Result, length, min, take, if◌then◌else◌, MatchResult, ⊤}
+use Rattle.std.specs.Prelude.{◌≡◌, ◌++◌, ◌+◌, ◌%◌, ◌^◌, ◌<◌, ℕ, List, [], ◌∷◌, Option, Some, None, Result, Ok, Err, length, min, take, if◌then◌else◌, MatchResult, ⊤}
 use Rattle.std.specs.Str.{bytes_eq}
+use Rattle.ssh_files.specs.declared.files.UnreadCause.{UnreadCause}
+use Rattle.ssh_files.specs.declared.files.UnreadCause.TheVariants.{NotFound, Other}
 
 -- the file that the next reads give
 pub data Chosen : Type 0 where
@@ -10,8 +12,8 @@ pub data Chosen : Type 0 where
   named_file : List ℕ → List ℕ → Chosen
 
 pub record SourceState : Type 0 where
-  -- the bytes of the file of a name, if it exists
-  pub named : List ℕ → Option (List ℕ)
+  -- the bytes of the file of a name, or why there are none
+  pub named : List ℕ → Result (List ℕ) UnreadCause
   -- what is left of standard input
   pub input : List ℕ
   pub chosen : Chosen
@@ -30,13 +32,33 @@ most_failures = 18446744073709551615
 abbrev pub dash : List ℕ
 dash = 45 ∷ []
 
-abbrev pub open_file : List ℕ → Option (List ℕ) → Chosen
-open_file name None = nothing
-open_file name (Some bytes) = named_file name bytes
+abbrev pub open_file : List ℕ → Result (List ℕ) UnreadCause → Chosen
+open_file name (Err cause) = nothing
+open_file name (Ok bytes) = named_file name bytes
 
--- the bytes that reads of the name give
+-- the bytes that reads of the name give, or why there are none
+abbrev pub given_at : SourceState → List ℕ → Result (List ℕ) UnreadCause
+given_at s name = if bytes_eq name dash then Ok s.input else s.named name
+
+-- these bytes, or there is no such file
+abbrev pub found_or_none : Option (List ℕ) → Result (List ℕ) UnreadCause
+found_or_none (Some bytes) = Ok bytes
+found_or_none None = Err NotFound
+
+abbrev pub bytes_of : Result (List ℕ) UnreadCause → Option (List ℕ)
+bytes_of (Ok bytes) = Some bytes
+bytes_of (Err cause) = None
+
 abbrev pub bytes_at : SourceState → List ℕ → Option (List ℕ)
-bytes_at s name = if bytes_eq name dash then Some s.input else s.named name
+bytes_at s name = bytes_of (given_at s name)
+
+-- why the file of this name is not read; of one that is there no more is known
+abbrev pub cause_of : Result (List ℕ) UnreadCause → UnreadCause
+cause_of (Ok bytes) = Other
+cause_of (Err cause) = cause
+
+abbrev pub cause_at : SourceState → List ℕ → UnreadCause
+cause_at s name = cause_of (given_at s name)
 
 -- the count of choices after one more
 abbrev pub next_choice : ℕ → ℕ

@@ -10,7 +10,7 @@ mod samples;
 mod seeker;
 mod values;
 
-pub use files::Files;
+pub use files::{Files, UnreadCause};
 pub use part::{Found, read_digest, read_front, read_past, read_top_line, seek_vouched};
 pub use read::{ReadError, read_first_line, read_vouch_file, read_whole};
 pub use values::{

@@ -5,7 +5,7 @@ ghost use Rattle.ssh_files.specs.SourceState.{left_of};
 ghost use Rattle.ssh_memory.specs.MemoryFiles.{memory_source, source_at_first};
 
 use crate::file_index::FileIndex;
-use ssh_files::Files;
+use ssh_files::{Files, UnreadCause};
 use std::io::{Error, ErrorKind, Read, Result};
 
 /// The name of a file, and its bytes.
@@ -90,6 +90,14 @@ impl Files for MemoryFiles<'_> {
 
     fn is_regular(&self, _name: &str) -> bool {
         true
+    }
+
+    fn unread_cause(&self, name: &str) -> UnreadCause {
+        if name == "-" || self.files.find(name.as_bytes()).is_some() {
+            UnreadCause::Other
+        } else {
+            UnreadCause::NotFound
+        }
     }
 
     fn read_chosen(&mut self, buf: &mut [u8]) -> Result<usize> {

@@ -1,6 +1,7 @@
 -- From the result of a reader over the chosen file to the decision of the file of that name.
 use Rattle.ssh_program.proofs.Imports.{◌≡◌, ◌∙◌, ◌++◌, ◌<◌, ◌+◌, ℕ, Bool, true, false, List, [], length, Option, Some, None, Result, Ok, Err, refl, sym, ap, subst, inl, inr, arith, rules, ◌⊎◌, ◌↔◌, IfSome, IsSome, IsTrue, OnErr, OnOk, min, bytes_eq, min-eq_left, lt-ltb, ltb-true, append-nil, length-append, Chosen, ChoosesKnown, IfTells, SourceState, bytes_at, choosing, dash, left_of, left_with, most_failures, name_of, named_file, nothing, standard_input, NoReadFailed, OneReadFailed, GivesOrMemory, if_short, file_limit, AnswersReader, Decision, Signed, AuditError, Offer, Signature, WrongAlgorithm, WeakSignature, CertSignature, Address, FileTooLong, Memory, Read, Failed, Body, Salts, Deciding, DecidesReader, answer_by, refusal_of, FailsOn, ReadsOn, AnswersFile}
 use Rattle.std.specs.Prelude.{nat_lt, option_map}
+use Rattle.ssh_files.specs.declared.files.UnreadCause.{UnreadCause}
 
 -- ---- whether a read failed
 
@@ -108,15 +109,15 @@ pub record IsChosen (s : SourceState) (name bytes : List ℕ) : Type 0 where
   pub named : name_of (choosing s name).chosen ≡ Some name
   pub left : left_of (choosing s name) ≡ bytes
 
-chosen-by : (b : Bool) (o : Option (List ℕ)) (s : SourceState) (name bytes : List ℕ) → bytes_eq name dash ≡ b → s.named name ≡ o → bytes_at s name ≡ Some bytes → IsChosen s name bytes
+chosen-by : (b : Bool) (o : Result (List ℕ) UnreadCause) (s : SourceState) (name bytes : List ℕ) → bytes_eq name dash ≡ b → s.named name ≡ o → bytes_at s name ≡ Some bytes → IsChosen s name bytes
 chosen-by true o s name bytes e n h =
     let same : Some s.input ≡ Some bytes = rw e at h in
     let dashed : name ≡ dash = search rules in
     record { named = rw e (ap (λ x. Some x) (sym dashed)); left = rw e cc }
-chosen-by false None s name bytes e n h =
+chosen-by false (Err cause) s name bytes e n h =
     let none : None ≡ Some bytes = rw (e, n) at h in
     cc
-chosen-by false (Some b) s name bytes e n h =
+chosen-by false (Ok b) s name bytes e n h =
     let same : Some b ≡ Some bytes = rw (e, n) at h in
     record { named = rw (e, n) refl; left = rw (e, n) cc }
 

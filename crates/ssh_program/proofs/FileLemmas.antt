@@ -1,5 +1,5 @@
 -- From what a file gives to its review, whose text is written.
-use Rattle.ssh_program.proofs.Imports.{◌≡◌, ◌∙◌, ◌≤◌, ◌++◌, ℕ, Bool, true, false, List, [], length, Option, Some, None, Result, Err, refl, sym, ap, subst, inl, inr, arith, lt-ltb, ltb-true, Account, Asking, TellsFile, IfTells, SourceState, bytes_at, after_whole, FailsLoad, IsLeft, IsTooLong, KeepsOthers, within_limit, ReadError, left-none, read-all, left-end, no-end, over_limit, TooLong, Form, AsLines, fault_review, ReviewKind, Auth, Known, review_of, review_over, telling_review, file_limit, lines_of}
+use Rattle.ssh_program.proofs.Imports.{◌≡◌, ◌∙◌, ◌≤◌, ◌++◌, ℕ, Bool, true, false, List, [], length, Option, Some, None, Result, Ok, Err, refl, sym, ap, subst, inl, inr, arith, lt-ltb, ltb-true, Account, Asking, TellsFile, IfTells, SourceState, bytes_at, after_whole, FailsLoad, IsLeft, IsTooLong, KeepsOthers, within_limit, ReadError, left-none, read-all, left-end, no-end, over_limit, TooLong, Form, AsLines, fault_review, ReviewKind, Auth, Known, review_of, review_over, telling_review, file_limit, lines_of}
 use Rattle.std.specs.Prelude.{nat_lt, if◌then◌else◌}
 use Rattle.sha2.specs.Sha256.{sha256}
 use Rattle.ssh_files.specs.declared.read.ReadError.TheVariants as read
@@ -10,6 +10,10 @@ use Rattle.ssh_review.specs.Lines.{counts_of}
 use Rattle.ssh_review.specs.ShownRecords.{host_shown_whole_review, shown_end, shown_records, shown_whole_review}
 use Rattle.ssh_review.specs.LineReports.{host_line_reports_of, line_reports_of}
 use Rattle.ssh_review.specs.declared.show.Show.{Show}
+use Rattle.ssh_review.specs.FileNames.{NameSeen, file_head}
+use Rattle.ssh_files.specs.declared.files.UnreadCause.{UnreadCause}
+use Rattle.ssh_files.specs.SourceState.{bytes_of, cause_at, cause_of, given_at}
+use Rattle.ssh_files.proofs.SourceLemmas.{given-all, given-none}
 use Rattle.ssh_review.specs.declared.end.FileFault.TheVariants.{Unread}
 use Rattle.ssh_program.specs.declared.streaming.FileReported.{FileReported}
 use Rattle.ssh_program.specs.declared.streaming.Stop.{Stop}
@@ -47,26 +51,27 @@ known-put show form asking name file old new r few h =
 
 -- ---- a file that was read
 
-file-reported : (kind : ReviewKind) (show : Show) (form : Form) (asking : Asking) (name file bytes : List ℕ) (o t : Option SourceState) → bytes ≡ file
-    → IfTells o (λ s. (within_limit (bytes_at s name) ≡ Some file) × IsLeft s (after_whole s name) t) → IfTells o (λ s. KeepsOthers name s t)
-    → IfTells o (λ s. TellsFile (telling_review kind show form asking) name s t (review_of kind show form asking name bytes))
-file-reported kind show form asking name file bytes None t is loads keeps = tt
-file-reported kind show form asking name file bytes (Some s) t is loads keeps = λ counts.
+file-reported : (kind : ReviewKind) (show : Show) (form : Form) (asking : Asking) (name : NameSeen) (head file bytes : List ℕ) (o t : Option SourceState) → head ≡ file_head form name → bytes ≡ file
+    → IfTells o (λ s. (within_limit (bytes_at s name.path) ≡ Some file) × IsLeft s (after_whole s name.path) t) → IfTells o (λ s. KeepsOthers name.path s t)
+    → IfTells o (λ s. TellsFile (telling_review kind show form asking) name s t (review_of kind show form asking head bytes))
+file-reported kind show form asking name head file bytes None t front is loads keeps = tt
+file-reported kind show form asking name head file bytes (Some s) t front is loads keeps = λ counts.
     let load = loads counts in (
       keeps counts,
       inr (
-        left-none s (after_whole s name) t load.1,
-        left-end name s t load.1,
-        ap (review_of kind show form asking name) is ∙ ap (review_over kind show form asking name) (sym (read-all (bytes_at s name) file load.0)),
+        left-none s (after_whole s name.path) t load.1,
+        left-end name.path s t load.1,
+        ap (λ (h : List ℕ). review_of kind show form asking h bytes) front ∙ (ap (review_of kind show form asking (file_head form name)) is
+            ∙ ap (review_over kind show form asking (file_head form name)) (sym (given-all (given_at s name.path) file load.0))),
       ),
     )
 
-pub file_reviewed : (kind : ReviewKind) (show : Show) (form : Form) (asking : Asking) (name file bytes : List ℕ) (o t : Option SourceState) (old new : Option Account) (r : Result FileReported Stop) → bytes ≡ file
-    → IfTells o (λ s. (within_limit (bytes_at s name) ≡ Some file) × IsLeft s (after_whole s name) t) → IfTells o (λ s. KeepsOthers name s t)
-    → TextPut (review_of kind show form asking name bytes).text (review_kept (review_of kind show form asking name bytes)) old new r
+pub file_reviewed : (kind : ReviewKind) (show : Show) (form : Form) (asking : Asking) (name : NameSeen) (head file bytes : List ℕ) (o t : Option SourceState) (old new : Option Account) (r : Result FileReported Stop) → head ≡ file_head form name → bytes ≡ file
+    → IfTells o (λ s. (within_limit (bytes_at s name.path) ≡ Some file) × IsLeft s (after_whole s name.path) t) → IfTells o (λ s. KeepsOthers name.path s t)
+    → TextPut (review_of kind show form asking head bytes).text (review_kept (review_of kind show form asking head bytes)) old new r
     → TextWritten (telling_review kind show form asking) (λ x. x.text) review_kept name o t old new r
-file_reviewed kind show form asking name file bytes o t old new r is loads keeps put =
-    text-reported (telling_review kind show form asking) (λ x. x.text) review_kept name o t old new r (review_of kind show form asking name bytes) (file-reported kind show form asking name file bytes o t is loads keeps) put
+file_reviewed kind show form asking name head file bytes o t old new r front is loads keeps put =
+    text-reported (telling_review kind show form asking) (λ x. x.text) review_kept name o t old new r (review_of kind show form asking head bytes) (file-reported kind show form asking name head file bytes o t front is loads keeps) put
 
 -- ---- one that gives no bytes
 
@@ -74,23 +79,52 @@ pub both_in : (P Q R : SourceState → Type 0) (o : Option SourceState) → ((s 
 both_in P Q R None f p q = tt
 both_in P Q R (Some s) f p q = λ counts. f s (p counts) (q counts)
 
-too-long : (kind : ReviewKind) (show : Show) (form : Form) (asking : Asking) (name : List ℕ) (bytes : Option (List ℕ)) → IsTooLong bytes → review_over kind show form asking name bytes ≡ fault_review form name TooLong
-too-long kind show form asking name None h = absurd h
-too-long Auth show form asking name (Some bytes) h = rw (lt-ltb file_limit (length bytes) h) refl
-too-long Known show form asking name (Some bytes) h = rw (lt-ltb file_limit (length bytes) h) refl
+-- the other files are as they were, and this is why the file is not read
+pub kept-and-cause : (name : List ℕ) (cause : UnreadCause) (t o : Option SourceState) → IfTells o (λ s. KeepsOthers name s t) → IfTells o (λ s. cause ≡ cause_at s name)
+    → IfTells o (λ s. KeepsOthers name s t × (cause ≡ cause_at s name))
+kept-and-cause name cause t None keeps why = tt
+kept-and-cause name cause t (Some s) keeps why = λ counts. (keeps counts, why counts)
 
-pub file_unread : (kind : ReviewKind) (show : Show) (form : Form) (asking : Asking) (name : List ℕ) (o t : Option SourceState) (e : ReadError) (old new : Option Account) (r : Result FileReported Stop)
-    → IfTells o (λ s. FailsLoad name (bytes_at s name) s t e) → IfTells o (λ s. KeepsOthers name s t) → UnreadPut form name e old new r
+too-long : (kind : ReviewKind) (show : Show) (form : Form) (asking : Asking) (name : List ℕ) (given : Result (List ℕ) UnreadCause) → IsTooLong (bytes_of given) → review_over kind show form asking name given ≡ fault_review form name TooLong
+too-long kind show form asking name (Err cause) h = absurd h
+too-long Auth show form asking name (Ok bytes) h = rw (lt-ltb file_limit (length bytes) h) refl
+too-long Known show form asking name (Ok bytes) h = rw (lt-ltb file_limit (length bytes) h) refl
+
+pub file_unread : (kind : ReviewKind) (show : Show) (form : Form) (asking : Asking) (name : NameSeen) (head : List ℕ) (o t : Option SourceState) (e : ReadError) (cause : UnreadCause) (old new : Option Account) (r : Result FileReported Stop)
+    → head ≡ file_head form name → IfTells o (λ s. FailsLoad name.path (bytes_at s name.path) s t e) → IfTells o (λ s. KeepsOthers name.path s t) → IfTells o (λ s. cause ≡ cause_at s name.path) → UnreadPut form head e cause old new r
     → TextWritten (telling_review kind show form asking) (λ x. x.text) review_kept name o t old new r
-file_unread kind show form asking name o t read.Memory old new r fails keeps (is, same) =
+file_unread kind show form asking name head o t read.Memory cause old new r front fails keeps why (is, same) =
     subst (λ (x : Result FileReported Stop). TextWritten (telling_review kind show form asking) (λ x. x.text) review_kept name o t old new x) (sym is)
     (nothing-reported (telling_review kind show form asking) (λ x. x.text) review_kept name o t old new (same ∙ nothing_taken old))
-file_unread kind show form asking name o t read.TooLong old new r fails keeps put =
-    text-reported (telling_review kind show form asking) (λ x. x.text) review_kept name o t old new r (fault_review form name TooLong)
-    (both_in _ _ _ o (λ s f k. (k, inr (f.1, no-end name s t k (over_limit (bytes_at s name) f.0), sym (too-long kind show form asking name (bytes_at s name) f.0)))) fails keeps) put
-file_unread kind show form asking name o t read.Missing old new r fails keeps put =
-    text-reported (telling_review kind show form asking) (λ x. x.text) review_kept name o t old new r (fault_review form name Unread)
-    (both_in _ _ _ o (λ s f k. (k, inr (f.1, no-end name s t k (ap within_limit f.0), sym (ap (review_over kind show form asking name) f.0)))) fails keeps) put
-file_unread kind show form asking name o t read.Failed old new r fails keeps put =
-    text-reported (telling_review kind show form asking) (λ x. x.text) review_kept name o t old new r (fault_review form name Unread)
-    (both_in _ _ _ o (λ s f k. (k, inl (f, refl))) fails keeps) put
+file_unread kind show form asking name head o t read.TooLong cause old new r front fails keeps why put =
+    text-reported (telling_review kind show form asking) (λ x. x.text) review_kept name o t old new r (fault_review form head TooLong)
+    (both_in _ _ _ o (λ s f k. (
+      k,
+      inr (
+        f.1,
+        no-end name.path s t k (over_limit (bytes_at s name.path) f.0),
+        ap (λ (h : List ℕ). fault_review form h TooLong) front ∙ sym (too-long kind show form asking (file_head form name) (given_at s name.path) f.0),
+      ),
+    )) fails keeps) put
+file_unread kind show form asking name head o t read.Missing cause old new r front fails keeps why put =
+    text-reported (telling_review kind show form asking) (λ x. x.text) review_kept name o t old new r (fault_review form head (Unread cause))
+    (both_in _ _ _ o (λ s f k. (
+      k.0,
+      inr (
+        f.1,
+        no-end name.path s t k.0 (ap within_limit f.0),
+        ap (λ (h : List ℕ). fault_review form h (Unread cause)) front ∙ (ap (λ (c : UnreadCause). fault_review form (file_head form name) (Unread c)) k.1
+            ∙ ap (review_over kind show form asking (file_head form name)) (sym (given-none (given_at s name.path) f.0))),
+      ),
+    )) fails (kept-and-cause name.path cause t o keeps why)) put
+file_unread kind show form asking name head o t read.Failed cause old new r front fails keeps why put =
+    text-reported (telling_review kind show form asking) (λ x. x.text) review_kept name o t old new r (fault_review form head (Unread cause))
+    (both_in _ _ _ o (λ s f k. (
+      k.0,
+      inl (f, ap (λ (h : List ℕ). fault_review form h (Unread cause)) front ∙ ap (λ (c : UnreadCause). fault_review form (file_head form name) (Unread c)) k.1),
+    )) fails (kept-and-cause name.path cause t o keeps why)) put
+
+-- nothing of it is written where memory for its head could not be allocated
+pub nothing_put : (kind : ReviewKind) (show : Show) (form : Form) (asking : Asking) (name : NameSeen) (o : Option SourceState) (a : Option Account)
+    → TextWritten (telling_review kind show form asking) (λ x. x.text) review_kept name o o a a (Err stop.Memory)
+nothing_put kind show form asking name o a = nothing-reported (telling_review kind show form asking) (λ x. x.text) review_kept name o o a a (nothing_taken a)

@@ -28,6 +28,11 @@ use Rattle.ssh_review.proofs.RewritingLemmas.{host-rewritten, login-rewritten}
 use Rattle.ssh_review.specs.HostReviews.{host_whole_review, known_review}
 use Rattle.ssh_review.specs.Readable.{readable_file}
 use Rattle.ssh_review.specs.Reviews.{Review, auth_review, fault_review, whole_review}
+use Rattle.ssh_files.specs.declared.files.UnreadCause.{UnreadCause}
+use Rattle.ssh_files.specs.SourceState.{bytes_of, cause_at, given_at}
+use Rattle.ssh_review.specs.FileNames.{NameSeen, file_head}
+use Rattle.ssh_program.specs.Namings.{names_asked}
+use Rattle.ssh_program.proofs.NamingLemmas.{listed-faulty, listed-many}
 use Rattle.ssh_review.specs.declared.end.FileFault.{FileFault}
 use Rattle.ssh_review.specs.declared.end.FileFault.TheVariants.{TooLong, Unread}
 use Rattle.ssh_review.specs.declared.end.Total.{Total}
@@ -315,30 +320,27 @@ prints Known asked name text file all h part = (
 )
 
 -- the file is there, and its review is this
-record ReviewedAs (asked : ReviewAsked) (name : List ℕ) (s : SourceState) (first : Review) : Type 0 where
+record ReviewedAs (asked : ReviewAsked) (name : NameSeen) (s : SourceState) (first : Review) : Type 0 where
   file : List ℕ
-  there : bytes_at s name ≡ Some file
-  is : first ≡ review_of asked.kind asked.show asked.form asked.asking name file
+  there : bytes_at s name.path ≡ Some file
+  is : first ≡ review_of asked.kind asked.show asked.form asked.asking (file_head asked.form name) file
 
-abbrev telling : ReviewAsked → Telling Review
+abbrev telling : ReviewAsked → Telling NameSeen Review
 telling asked = telling_review asked.kind asked.show asked.form asked.asking
 
-reviewed-by : (asked : ReviewAsked) (name : List ℕ) (s : SourceState) (first : Review) (bytes : Option (List ℕ)) → bytes_at s name ≡ bytes
-    → first ≡ (telling asked).of_bytes name bytes → first.fault ≡ None → ReviewedAs asked name s first
-reviewed-by asked name s first None there is whole = absurd (none-some (sym (ap (λ (x : Review). x.fault) is) ∙ whole))
-  where
-    none-some : ◌≡◌ {A = Option FileFault} (Some Unread) None → ⊥
-    none-some e = cc
-reviewed-by asked name s first (Some file) there is whole = record { file = file; there = there; is = is }
+some-fault : (fault : FileFault) → ◌≡◌ {A = Option FileFault} (Some fault) None → ⊥
+some-fault fault h = cc
 
-reviewed-as : (asked : ReviewAsked) (name : List ℕ) (s m : SourceState) (first : Review) → TellsFile (telling asked) name s (Some m) first → first.fault ≡ None → ReviewedAs asked name s first
-reviewed-as asked name s m first (keeps, inl (failed, is)) whole = absurd (none-some (sym (ap (λ (x : Review). x.fault) is) ∙ whole))
-  where
-    none-some : ◌≡◌ {A = Option FileFault} (Some Unread) None → ⊥
-    none-some e = cc
-reviewed-as asked name s m first (keeps, inr (unfailed, end, is)) whole = reviewed-by asked name s first (bytes_at s name) refl is whole
+reviewed-by : (asked : ReviewAsked) (name : NameSeen) (s : SourceState) (first : Review) (given : Result (List ℕ) UnreadCause) → given_at s name.path ≡ given
+    → first ≡ (telling asked).of_bytes name given → first.fault ≡ None → ReviewedAs asked name s first
+reviewed-by asked name s first (Err cause) there is whole = absurd (some-fault (Unread cause) (sym (ap (λ (x : Review). x.fault) is) ∙ whole))
+reviewed-by asked name s first (Ok file) there is whole = record { file = file; there = ap bytes_of there; is = is }
 
-few-failures : (asked : ReviewAsked) (name : List ℕ) (s m : SourceState) (first : Review) → TellsFile (telling asked) name s (Some m) first → m.failures ≤ s.failures + 1
+reviewed-as : (asked : ReviewAsked) (name : NameSeen) (s m : SourceState) (first : Review) → TellsFile (telling asked) name s (Some m) first → first.fault ≡ None → ReviewedAs asked name s first
+reviewed-as asked name s m first (keeps, inl (failed, is)) whole = absurd (some-fault (Unread (cause_at s name.path)) (sym (ap (λ (x : Review). x.fault) is) ∙ whole))
+reviewed-as asked name s m first (keeps, inr (unfailed, end, is)) whole = reviewed-by asked name s first (given_at s name.path) refl is whole
+
+few-failures : (asked : ReviewAsked) (name : NameSeen) (s m : SourceState) (first : Review) → TellsFile (telling asked) name s (Some m) first → m.failures ≤ s.failures + 1
 few-failures asked name s m first (keeps, inl (failed, is)) = let one : m.failures ≡ s.failures + 1 = failed.0 in omega (arith, one)
 few-failures asked name s m first (keeps, inr (unfailed, end, is)) = let same : m.failures ≡ s.failures = unfailed in omega (arith, same)
 
@@ -350,13 +352,13 @@ record Printed (sofar reported : Lines) (rest : List ℕ) : Type 0 where
   faultless : sofar.total.faults ≡ 0
 
 -- each of the files was reviewed without a fault, and this text is printed of them
-abbrev EachReviewed : ReviewAsked → List (List ℕ) → SourceState → List ℕ → Type 0
+abbrev EachReviewed : ReviewAsked → List NameSeen → SourceState → List ℕ → Type 0
 EachReviewed asked [] s rest = rest ≡ []
 EachReviewed asked (name ∷ names) s rest =
     (first : Review) × ReviewedAs asked name s first × (first.fault ≡ None)
-    × ((m : SourceState) × (more : List ℕ) × KeepsOthers name s (Some m) × (rest ≡ first.text ++ more) × EachReviewed asked names m more)
+    × ((m : SourceState) × (more : List ℕ) × KeepsOthers name.path s (Some m) × (rest ≡ first.text ++ more) × EachReviewed asked names m more)
 
-each-reviewed : (asked : ReviewAsked) (sofar : Lines) (names : List (List ℕ)) (s : SourceState) (t : Option SourceState) (reported : Lines)
+each-reviewed : (asked : ReviewAsked) (sofar : Lines) (names : List NameSeen) (s : SourceState) (t : Option SourceState) (reported : Lines)
     → s.failures + length names < most_failures → TellsFiles with_file (telling asked) sofar names s t reported → reported.total.faults ≡ 0
     → (rest : List ℕ) × Printed sofar reported rest × EachReviewed asked names s rest
 each-reviewed asked sofar [] s t reported room (unfailed, is) none =
@@ -373,7 +375,7 @@ each-reviewed asked sofar (name ∷ names) s t reported room (m, first, one, mor
     )
 
 -- so each review is a part of the whole text
-prints-each : (asked : ReviewAsked) (text before : List ℕ) (after : List ℕ) (names : List (List ℕ)) (s : SourceState) (rest : List ℕ) → asked.show ≡ All → EachReviewed asked names s rest
+prints-each : (asked : ReviewAsked) (text before : List ℕ) (after : List ℕ) (names : List NameSeen) (s : SourceState) (rest : List ℕ) → asked.show ≡ All → EachReviewed asked names s rest
     → text ≡ before ++ (rest ++ after) → PrintsReviews asked text names s
 prints-each asked text before after [] s rest all h is = tt
 prints-each asked text before after (name ∷ names) s rest all (first, reviewed, whole, (m, more, keeps, are, each)) is =
@@ -381,7 +383,7 @@ prints-each asked text before after (name ∷ names) s rest all (first, reviewed
     let later : text ≡ (before ++ first.text) ++ (more ++ after) = parts ∙ sym (append_assoc before first.text (more ++ after)) in
     let fault = sym (ap (λ (x : Review). x.fault) reviewed.is) ∙ whole in
     let part = subst (λ (x : Review). IsPartOf x.text text) reviewed.is (before, more ++ after, parts) in
-    ((reviewed.file, reviewed.there, prints asked.kind asked name text reviewed.file all fault part), (m, keeps, prints-each asked text (before ++ first.text) after names m more all each later))
+    ((reviewed.file, reviewed.there, prints asked.kind asked (file_head asked.form name) text reviewed.file all fault part), (m, keeps, prints-each asked text (before ++ first.text) after names m more all each later))
 
 -- ---- what the options spell
 
@@ -408,10 +410,12 @@ review-faulty rows zone =
     step-faulty _ _ (optional-faulty default_codes codes_in option.Findings rows) (λ reported.
     step-faulty _ _ (form-faulty kind rows) (λ form.
     step-faulty _ _ (failing-faulty reported rows) (λ failing.
-    step-faulty _ _ (or-faulty (names_given rows) _ refl) (λ names. none-faulty _))))))))
+    step-faulty _ _ (or-faulty (names_given rows) _ refl) (λ words.
+    step-faulty _ _ (listed-faulty rows words) (λ names. none-faulty _)))))))))
 
+-- each word names a file
 abbrev pub IsNamed : List Row → ReviewCall → Type 0
-IsNamed rows a = names_needed rows ≡ Ok a.names
+IsNamed rows a = (words : List (List ℕ)) × (names_needed rows ≡ Ok words) × (length a.names ≡ length words)
 
 pub review-names : (rows : List Row) (zone : Option TimeZone) (a : ReviewCall) → review_spelled rows zone ≡ Ok a → IsNamed rows a
 unfolding review_spelled
@@ -423,8 +427,9 @@ review-names rows zone =
     step-any (IsNamed rows) (value_or default_codes codes_in option.Findings rows) _ (λ reported.
     step-any (IsNamed rows) (review_form kind rows) _ (λ form.
     step-any (IsNamed rows) (failing_asked reported rows) _ (λ failing.
-    step-gives (λ names. names_needed rows ≡ Ok names) (IsNamed rows) (names_needed rows) _ (λ names h. h) (λ names is.
-    λ a h. subst (IsNamed rows) (ok-same {A = ReviewCall} {B = Response} _ a h) is))))))))
+    step-gives (λ words. names_needed rows ≡ Ok words) (IsNamed rows) (names_needed rows) _ (λ words h. h) (λ words is.
+    step-gives (λ names. length names ≡ length words) (IsNamed rows) (names_asked rows words) _ (listed-many rows words) (λ names many.
+    λ a h. subst (IsNamed rows) (ok-same {A = ReviewCall} {B = Response} _ a h) (words, is, many))))))))))
 
 -- ---- a response to `review`
 
@@ -453,7 +458,8 @@ reviewed-in rows names zone s t r named room read lines shows (Err fault) spelle
     let same = status-of r fault is in
     absurd (omega (arith, two, same, few))
 reviewed-in rows names zone s t r named room read lines shows (Ok q) spelled h few =
-    let are = ok-same {A = List (List ℕ)} {B = Response} names q.names (sym named ∙ review-names rows zone q spelled) in
+    let (words, needed, as_many) = review-names rows zone q spelled in
+    let are = ok-same {A = List (List ℕ)} {B = Response} names words (sym named ∙ needed) in
     let (show, form, is, shown, asked) = asks-lines rows zone q lines spelled in
     let all = ok-same {A = Show} {B = Response} show All (sym shown ∙ shows) in
     let a : ReviewAsked = record { kind = q.kind; show = show; form = form; failing = q.failing; rule = q.rule; asking = q.asking; names = q.names } in
@@ -462,7 +468,7 @@ reviewed-in rows names zone s t r named room read lines shows (Ok q) spelled h f
       read = read;
       asked = a;
       spelled = asked;
-      reviews = review-of a s t r (subst (λ (x : List (List ℕ)). s.failures + length x < most_failures) are room) all
+      reviews = review-of a s t r (subst (λ (n : ℕ). s.failures + n < most_failures) (ap length are ∙ sym as_many) room) all
           (subst (λ (x : FormAsked). ReviewsAs x None q.kind q.failing q.rule q.asking q.names s t r) is h) few;
     }
 

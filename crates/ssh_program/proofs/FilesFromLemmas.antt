@@ -11,7 +11,7 @@ use Rattle.ssh_program.specs.declared.name_list.ListError.{ListError}
 use Rattle.ssh_program.specs.declared.name_list.ListError.TheVariants.{Memory}
 use Rattle.ssh_program.specs.declared.word.Place.{Place}
 use Rattle.ssh_program.specs.declared.word.Place.TheVariants.{Open, AfterOption, Behind}
-use Rattle.ssh_program.specs.FilesFrom.{NamesBehind, OperandsBehind, asked_by, dashes, is_list_option, kept_words, listed_words, place_behind, reads_twice}
+use Rattle.ssh_program.specs.FilesFrom.{NamesBehind, OperandsBehind, asked_by, dashes, is_list_option, kept_words, listed_words, place_behind, reads_twice, naming_in}
 use Rattle.ssh_program.specs.NameLists.{list_names}
 use Rattle.ssh_program.specs.WordPlaces.{Word, after_open, in_turn, is_bare, is_dashes, is_given, is_operand, names_option, place_after, words_from}
 
@@ -89,10 +89,10 @@ operands_behind before (word ∷ words) = ap (λ ws. record { before = before; p
 -- ---- the words with the names
 
 pub asked_failed : (command : Text) (words : List Word) (bytes : Text) (e : ListError) → reads_twice words ≡ false
-    → (e ≡ Memory) ⊎ (list_names bytes ≡ Err e) → (e ≡ Memory) ⊎ (asked_by command words bytes ≡ Err e)
+    → (e ≡ Memory) ⊎ (list_names (naming_in words) bytes ≡ Err e) → (e ≡ Memory) ⊎ (asked_by command words bytes ≡ Err e)
 asked_failed command words bytes e once (inl memory) = inl memory
 asked_failed command words bytes e once (inr fault) = inr (rw (once, fault) refl)
 
-pub asked_reported : (command : Text) (words : List Word) (bytes : Text) (names reported : List Text) → reads_twice words ≡ false → list_names bytes ≡ Ok names
+pub asked_reported : (command : Text) (words : List Word) (bytes : Text) (names reported : List Text) → reads_twice words ≡ false → list_names (naming_in words) bytes ≡ Ok names
     → reported ≡ command ∷ listed_words words names → asked_by command words bytes ≡ Ok reported
 asked_reported command words bytes names reported once read made = rw (once, read) (ap (λ ws. Ok ws) (sym made))

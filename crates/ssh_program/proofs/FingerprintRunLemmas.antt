@@ -69,10 +69,10 @@ reported-denies client digest name file h = go (nat_lt file_limit (length file))
     go false h = found-denies client digest name file (found_key digest file) refl h
 
 held-grants : (client : ClientOptions) (digest : List ℕ) → Tells (fingerprint_telling client digest) Grants (LetsInHeld client digest)
-held-grants client digest = record { fault = λ name h. cc; none = λ name h. cc; some = λ name file h. reported-grants client digest name file h }
+held-grants client digest = record { read_as = λ name. refl; fault = λ name cause h. cc; none = λ name cause h. cc; some = λ name file h. reported-grants client digest name file h }
 
 held-denies : (client : ClientOptions) (digest : List ℕ) → Tells (fingerprint_telling client digest) Denies (KeepsOutHeld client digest)
-held-denies client digest = record { fault = λ name h. cc; none = λ name h. cc; some = λ name file h. reported-denies client digest name file h }
+held-denies client digest = record { read_as = λ name. refl; fault = λ name cause h. cc; none = λ name cause h. cc; some = λ name file h. reported-denies client digest name file h }
 
 -- ---- what is asked of the files
 

@@ -25,6 +25,8 @@ use Rattle.ssh_program.specs.declared.admission.Outcome.TheVariants.{Denies, Ope
 use Rattle.ssh_program.specs.declared.args.ArgName.TheVariants as option
 use Rattle.ssh_program.specs.declared.args.KeyPlace.TheVariants as place
 use Rattle.ssh_program.specs.declared.subcommand.Subcommand.TheVariants.{Admits, Trusts}
+use Rattle.ssh_files.specs.declared.files.UnreadCause.{UnreadCause}
+use Rattle.ssh_files.specs.SourceState.{bytes_of, cause_at, given_at}
 use Rattle.ssh_files.specs.FilesInTurn.{Telling}
 use Rattle.ssh_program.specs.Admissions.{Otherness, and_then, beside_answer, beside_by}
 use Rattle.ssh_program.specs.Audits.{decided_by, evidence_by}
@@ -71,30 +73,33 @@ status-denies Opens h = absurd (omega (arith, h))
 status-denies Faulty h = absurd (omega (arith, h))
 
 -- what a file tells is a fault, if there is none, or if its read failed; and of a file with this outcome this holds
-pub record Tells (tells : Telling ReportedLines) (o : Outcome) (P : List ℕ → Type 0) : Type 0 where
-  pub fault : (name : List ℕ) → (tells.of_fault name).outcome ≡ o → ⊥
-  pub none : (name : List ℕ) → (tells.of_bytes name None).outcome ≡ o → ⊥
-  pub some : (name file : List ℕ) → (tells.of_bytes name (Some file)).outcome ≡ o → P file
+pub record Tells (tells : Telling (List ℕ) ReportedLines) (o : Outcome) (P : List ℕ → Type 0) : Type 0 where
+  -- each is read by its name
+  pub read_as : (name : List ℕ) → tells.path name ≡ name
+  pub fault : (name : List ℕ) (cause : UnreadCause) → (tells.of_fault name cause).outcome ≡ o → ⊥
+  pub none : (name : List ℕ) (cause : UnreadCause) → (tells.of_bytes name (Err cause)).outcome ≡ o → ⊥
+  pub some : (name file : List ℕ) → (tells.of_bytes name (Ok file)).outcome ≡ o → P file
 
 abbrev HasFile : (List ℕ → Type 0) → List ℕ → SourceState → Type 0
 HasFile P name s = (file : List ℕ) × (bytes_at s name ≡ Some file) × P file
 
-has-bytes : (tells : Telling ReportedLines) (o : Outcome) (P : List ℕ → Type 0) (name : List ℕ) (s : SourceState) (first : ReportedLines) → Tells tells o P
-    → (bytes : Option (List ℕ)) → bytes_at s name ≡ bytes → (tells.of_bytes name bytes).outcome ≡ o → HasFile P name s
-has-bytes tells o P name s first h None is e = absurd (h.none name e)
-has-bytes tells o P name s first h (Some file) is e = (file, is, h.some name file e)
+has-bytes : (tells : Telling (List ℕ) ReportedLines) (o : Outcome) (P : List ℕ → Type 0) (name : List ℕ) (s : SourceState) (first : ReportedLines) → Tells tells o P
+    → (given : Result (List ℕ) UnreadCause) → given_at s name ≡ given → (tells.of_bytes name given).outcome ≡ o → HasFile P name s
+has-bytes tells o P name s first h (Err cause) is e = absurd (h.none name cause e)
+has-bytes tells o P name s first h (Ok file) is e = (file, ap bytes_of is, h.some name file e)
 
-has-file : (tells : Telling ReportedLines) (o : Outcome) (P : List ℕ → Type 0) (name : List ℕ) (s m : SourceState) (first : ReportedLines) → Tells tells o P
+has-file : (tells : Telling (List ℕ) ReportedLines) (o : Outcome) (P : List ℕ → Type 0) (name : List ℕ) (s m : SourceState) (first : ReportedLines) → Tells tells o P
     → TellsFile tells name s (Some m) first → first.outcome ≡ o → HasFile P name s
-has-file tells o P name s m first h (keeps, inl (failed, is)) e = absurd (h.fault name (sym (ap (λ (x : ReportedLines). x.outcome) is) ∙ e))
+has-file tells o P name s m first h (keeps, inl (failed, is)) e = absurd (h.fault name (cause_at s (tells.path name)) (sym (ap (λ (x : ReportedLines). x.outcome) is) ∙ e))
 has-file tells o P name s m first h (keeps, inr (unfailed, end, is)) e =
-    has-bytes tells o P name s first h (bytes_at s name) refl (sym (ap (λ (x : ReportedLines). x.outcome) is) ∙ e)
+    has-bytes tells o P name s first h (given_at s name) refl
+    (sym (ap (λ (x : ReportedLines). x.outcome) (is ∙ ap (λ (n : List ℕ). tells.of_bytes name (given_at s n)) (h.read_as name))) ∙ e)
 
-few-failures : (tells : Telling ReportedLines) (name : List ℕ) (s m : SourceState) (first : ReportedLines) → TellsFile tells name s (Some m) first → m.failures ≤ s.failures + 1
+few-failures : (tells : Telling (List ℕ) ReportedLines) (name : List ℕ) (s m : SourceState) (first : ReportedLines) → TellsFile tells name s (Some m) first → m.failures ≤ s.failures + 1
 few-failures tells name s m first (keeps, inl (failed, is)) = let one : m.failures ≡ s.failures + 1 = failed.0 in omega (arith, one)
 few-failures tells name s m first (keeps, inr (unfailed, end, is)) = let same : m.failures ≡ s.failures = unfailed in omega (arith, same)
 
-pub some-file : (tells : Telling ReportedLines) (P : List ℕ → Type 0) → Tells tells Grants P → (sofar : ReportedLines) (names : List (List ℕ)) (s : SourceState) (t : Option SourceState) (reported : ReportedLines)
+pub some-file : (tells : Telling (List ℕ) ReportedLines) (P : List ℕ → Type 0) → Tells tells Grants P → (sofar : ReportedLines) (names : List (List ℕ)) (s : SourceState) (t : Option SourceState) (reported : ReportedLines)
     → s.failures + length names < most_failures → TellsFiles reported_both tells sofar names s t reported → reported.outcome ≡ Grants → (sofar.outcome ≡ Grants) ⊎ SomeFile P names s
 some-file tells P h sofar [] s t reported room (unfailed, is) e = inl (sym (ap (λ (x : ReportedLines). x.outcome) is) ∙ e)
 some-file tells P h sofar (name ∷ names) s t reported room (m, first, one, more) e =
@@ -106,10 +111,10 @@ some-file tells P h sofar (name ∷ names) s t reported room (m, first, one, mor
             | inl before ↦ inl before
             | inr here ↦ inr (inl (has-file tells Grants P name s m first h one here))
           ]
-      | inr later ↦ inr (inr (m, one.0, later))
+      | inr later ↦ inr (inr (m, subst (λ (n : List ℕ). KeepsOthers n s (Some m)) (h.read_as name) one.0, later))
     ]
 
-pub each-file : (tells : Telling ReportedLines) (P : List ℕ → Type 0) → Tells tells Denies P → (sofar : ReportedLines) (names : List (List ℕ)) (s : SourceState) (t : Option SourceState) (reported : ReportedLines)
+pub each-file : (tells : Telling (List ℕ) ReportedLines) (P : List ℕ → Type 0) → Tells tells Denies P → (sofar : ReportedLines) (names : List (List ℕ)) (s : SourceState) (t : Option SourceState) (reported : ReportedLines)
     → s.failures + length names < most_failures → TellsFiles reported_both tells sofar names s t reported → reported.outcome ≡ Denies → (sofar.outcome ≡ Denies) × EachFile P names s
 each-file tells P h sofar [] s t reported room (unfailed, is) e = (sym (ap (λ (x : ReportedLines). x.outcome) is) ∙ e, tt)
 each-file tells P h sofar (name ∷ names) s t reported room (m, first, one, more) e =
@@ -117,7 +122,7 @@ each-file tells P h sofar (name ∷ names) s t reported room (m, first, one, mor
     let left : m.failures + length names < most_failures = omega (arith, room, few) in
     let (both, rest) = each-file tells P h (reported_both sofar first) names m t reported left (more (omega (arith, left))) e in
     let (before, here) = after-denies sofar.outcome first.outcome both in
-    (before, (has-file tells Denies P name s m first h one here, (m, one.0, rest)))
+    (before, (has-file tells Denies P name s m first h one here, (m, subst (λ (n : List ℕ). KeepsOthers n s (Some m)) (h.read_as name) one.0, rest)))
 
 -- ---- what a file decides
 
@@ -149,16 +154,17 @@ distrust-key claim file other true d h means = cc
 distrust-key claim file other false (Granted line rights reasons evidence) h means = cc
 distrust-key claim file other false (Denied why reasons evidence) h means = means.0
 
-abbrev pub login-telling : AnswerForm → Otherness → LoginClaim → Telling ReportedLines
+abbrev pub login-telling : AnswerForm → Otherness → LoginClaim → Telling (List ℕ) ReportedLines
 login-telling who beside claim = telling who (decided_by login_decision (Ok claim)) beside (login_evidence claim)
 
-abbrev host-telling : AnswerForm → Otherness → HostClaim → Telling ReportedLines
+abbrev host-telling : AnswerForm → Otherness → HostClaim → Telling (List ℕ) ReportedLines
 host-telling who beside claim = telling who (decided_by host_decision (Ok claim)) beside (host_evidence claim)
 
 pub tells-grants : (who : AnswerForm) (beside : Otherness) (claim : LoginClaim) → Tells (login-telling who beside claim) Grants (LetsIn claim)
 tells-grants who beside claim = record {
-  fault = λ name h. cc;
-  none = λ name h. cc;
+  read_as = λ name. refl;
+  fault = λ name cause h. cc;
+  none = λ name cause h. cc;
   some = λ name file h bytes.
       let d = login_decision file claim (login_evidence claim) in
       let long = nat_lt file_limit (length file) in
@@ -168,8 +174,9 @@ tells-grants who beside claim = record {
 
 pub tells-denies : (who : AnswerForm) (beside : Otherness) (claim : LoginClaim) → Tells (login-telling who beside claim) Denies (KeepsOut claim)
 tells-denies who beside claim = record {
-  fault = λ name h. cc;
-  none = λ name h. cc;
+  read_as = λ name. refl;
+  fault = λ name cause h. cc;
+  none = λ name cause h. cc;
   some = λ name file h bytes.
       let d = login_decision file claim (login_evidence claim) in
       let long = nat_lt file_limit (length file) in
@@ -179,8 +186,9 @@ tells-denies who beside claim = record {
 
 tells-trusts : (who : AnswerForm) (beside : Otherness) (claim : HostClaim) → Tells (host-telling who beside claim) Grants (TrustsKey claim)
 tells-trusts who beside claim = record {
-  fault = λ name h. cc;
-  none = λ name h. cc;
+  read_as = λ name. refl;
+  fault = λ name cause h. cc;
+  none = λ name cause h. cc;
   some = λ name file h bytes.
       let d = host_decision file claim (host_evidence claim) in
       let long = nat_lt file_limit (length file) in
@@ -190,8 +198,9 @@ tells-trusts who beside claim = record {
 
 tells-distrusts : (who : AnswerForm) (beside : Otherness) (claim : HostClaim) → Tells (host-telling who beside claim) Denies (DistrustsKey claim)
 tells-distrusts who beside claim = record {
-  fault = λ name h. cc;
-  none = λ name h. cc;
+  read_as = λ name. refl;
+  fault = λ name cause h. cc;
+  none = λ name cause h. cc;
   some = λ name file h bytes.
       let d = host_decision file claim (host_evidence claim) in
       let long = nat_lt file_limit (length file) in

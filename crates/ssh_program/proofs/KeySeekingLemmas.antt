@@ -9,6 +9,10 @@ use Rattle.ssh_text.specs.Text.{lines_of, numbered}
 use Rattle.ssh_review.specs.Forms.{end_line}
 use Rattle.ssh_review.specs.HostKeyRecords.{host_key_counts_of, host_key_records_of}
 use Rattle.ssh_review.specs.KeyRecords.{key_counts_of, key_records_of}
+use Rattle.ssh_review.specs.FileNames.{NameSeen, file_head}
+use Rattle.ssh_files.specs.declared.files.UnreadCause.{UnreadCause}
+use Rattle.ssh_files.specs.SourceState.{bytes_of, cause_at, cause_of, given_at}
+use Rattle.ssh_files.proofs.SourceLemmas.{given-all, given-none}
 use Rattle.ssh_review.specs.declared.end.FileFault.TheVariants.{Unread}
 use Rattle.ssh_review.specs.declared.show.Show.{Show}
 use Rattle.ssh_findings.specs.declared.code.Code.{Code}
@@ -20,7 +24,7 @@ use Rattle.ssh_program.specs.FingerprintValues.{is_fingerprint}
 use Rattle.ssh_program.specs.KeySeeking.{ReviewsFor, SeeksBy, SeeksKey, SeeksKeyOfFile, fingerprint_or_fault, key_review_kept, key_review_of, key_review_over, no_key_lines, or_key_fault, spelled_fingerprint, telling_key_review, with_key_file}
 use Rattle.ssh_program.specs.Printing.{WritesAnswer}
 use Rattle.ssh_program.proofs.AnsweredLemmas.{spelled_same}
-use Rattle.ssh_program.proofs.FileLemmas.{both_in, within-false}
+use Rattle.ssh_program.proofs.FileLemmas.{both_in, kept-and-cause, within-false}
 use Rattle.ssh_program.proofs.PutLemmas.{nothing-reported, text-reported}
 use Rattle.ssh_program.proofs.StreamLemmas.{ends_same, writes_as}
 use Rattle.ssh_program.proofs.WrittenText.{nothing_taken}
@@ -47,61 +51,85 @@ known-key-put sought form asking name file old new r few h =
 
 -- ---- a file that was read
 
-key-file-reported : (sought : List ℕ) (kind : ReviewKind) (form : Form) (asking : Asking) (name file bytes : List ℕ) (o t : Option SourceState) → bytes ≡ file
-    → IfTells o (λ s. (within_limit (bytes_at s name) ≡ Some file) × IsLeft s (after_whole s name) t) → IfTells o (λ s. KeepsOthers name s t)
-    → IfTells o (λ s. TellsFile (telling_key_review sought kind form asking) name s t (key_review_of sought kind form asking name bytes))
-key-file-reported sought kind form asking name file bytes None t is loads keeps = tt
-key-file-reported sought kind form asking name file bytes (Some s) t is loads keeps = λ counts.
+key-file-reported : (sought : List ℕ) (kind : ReviewKind) (form : Form) (asking : Asking) (name : NameSeen) (head file bytes : List ℕ) (o t : Option SourceState) → head ≡ file_head form name → bytes ≡ file
+    → IfTells o (λ s. (within_limit (bytes_at s name.path) ≡ Some file) × IsLeft s (after_whole s name.path) t) → IfTells o (λ s. KeepsOthers name.path s t)
+    → IfTells o (λ s. TellsFile (telling_key_review sought kind form asking) name s t (key_review_of sought kind form asking head bytes))
+key-file-reported sought kind form asking name head file bytes None t front is loads keeps = tt
+key-file-reported sought kind form asking name head file bytes (Some s) t front is loads keeps = λ counts.
     let load = loads counts in (
       keeps counts,
       inr (
-        left-none s (after_whole s name) t load.1,
-        left-end name s t load.1,
-        ap (key_review_of sought kind form asking name) is ∙ ap (key_review_over sought kind form asking name) (sym (read-all (bytes_at s name) file load.0)),
+        left-none s (after_whole s name.path) t load.1,
+        left-end name.path s t load.1,
+        ap (λ (h : List ℕ). key_review_of sought kind form asking h bytes) front ∙ (ap (key_review_of sought kind form asking (file_head form name)) is
+            ∙ ap (key_review_over sought kind form asking (file_head form name)) (sym (given-all (given_at s name.path) file load.0))),
       ),
     )
 
-pub key_file_reviewed : (sought : List ℕ) (kind : ReviewKind) (form : Form) (asking : Asking) (name file bytes : List ℕ) (o t : Option SourceState) (old new : Option Account) (r : Result FileReported Stop) → bytes ≡ file
-    → IfTells o (λ s. (within_limit (bytes_at s name) ≡ Some file) × IsLeft s (after_whole s name) t) → IfTells o (λ s. KeepsOthers name s t)
-    → TextPut (key_review_of sought kind form asking name bytes).file.text (key_review_kept (key_review_of sought kind form asking name bytes)) old new r
+pub key_file_reviewed : (sought : List ℕ) (kind : ReviewKind) (form : Form) (asking : Asking) (name : NameSeen) (head file bytes : List ℕ) (o t : Option SourceState) (old new : Option Account) (r : Result FileReported Stop) → head ≡ file_head form name → bytes ≡ file
+    → IfTells o (λ s. (within_limit (bytes_at s name.path) ≡ Some file) × IsLeft s (after_whole s name.path) t) → IfTells o (λ s. KeepsOthers name.path s t)
+    → TextPut (key_review_of sought kind form asking head bytes).file.text (key_review_kept (key_review_of sought kind form asking head bytes)) old new r
     → TextWritten (telling_key_review sought kind form asking) (λ x. x.file.text) key_review_kept name o t old new r
-key_file_reviewed sought kind form asking name file bytes o t old new r is loads keeps put =
-    text-reported (telling_key_review sought kind form asking) (λ x. x.file.text) key_review_kept name o t old new r (key_review_of sought kind form asking name bytes)
-    (key-file-reported sought kind form asking name file bytes o t is loads keeps) put
+key_file_reviewed sought kind form asking name head file bytes o t old new r front is loads keeps put =
+    text-reported (telling_key_review sought kind form asking) (λ x. x.file.text) key_review_kept name o t old new r (key_review_of sought kind form asking head bytes)
+    (key-file-reported sought kind form asking name head file bytes o t front is loads keeps) put
 
 -- ---- one that gives no bytes
 
-too-long : (sought : List ℕ) (kind : ReviewKind) (form : Form) (asking : Asking) (name : List ℕ) (bytes : Option (List ℕ)) → IsTooLong bytes → key_review_over sought kind form asking name bytes ≡ key_fault_review form name TooLong
-too-long sought kind form asking name None h = absurd h
-too-long sought Auth form asking name (Some bytes) h = rw (lt-ltb file_limit (length bytes) h) refl
-too-long sought Known form asking name (Some bytes) h = rw (lt-ltb file_limit (length bytes) h) refl
+too-long : (sought : List ℕ) (kind : ReviewKind) (form : Form) (asking : Asking) (name : List ℕ) (given : Result (List ℕ) UnreadCause) → IsTooLong (bytes_of given) → key_review_over sought kind form asking name given ≡ key_fault_review form name TooLong
+too-long sought kind form asking name (Err cause) h = absurd h
+too-long sought Auth form asking name (Ok bytes) h = rw (lt-ltb file_limit (length bytes) h) refl
+too-long sought Known form asking name (Ok bytes) h = rw (lt-ltb file_limit (length bytes) h) refl
 
-pub key_file_unread : (sought : List ℕ) (kind : ReviewKind) (form : Form) (asking : Asking) (name : List ℕ) (o t : Option SourceState) (e : ReadError) (old new : Option Account) (r : Result FileReported Stop)
-    → IfTells o (λ s. FailsLoad name (bytes_at s name) s t e) → IfTells o (λ s. KeepsOthers name s t) → UnreadPut form name e old new r
+pub key_file_unread : (sought : List ℕ) (kind : ReviewKind) (form : Form) (asking : Asking) (name : NameSeen) (head : List ℕ) (o t : Option SourceState) (e : ReadError) (cause : UnreadCause) (old new : Option Account) (r : Result FileReported Stop)
+    → head ≡ file_head form name → IfTells o (λ s. FailsLoad name.path (bytes_at s name.path) s t e) → IfTells o (λ s. KeepsOthers name.path s t) → IfTells o (λ s. cause ≡ cause_at s name.path) → UnreadPut form head e cause old new r
     → TextWritten (telling_key_review sought kind form asking) (λ x. x.file.text) key_review_kept name o t old new r
-key_file_unread sought kind form asking name o t fault.Memory old new r fails keeps (is, same) =
+key_file_unread sought kind form asking name head o t fault.Memory cause old new r front fails keeps why (is, same) =
     subst (λ (x : Result FileReported Stop). TextWritten (telling_key_review sought kind form asking) (λ x. x.file.text) key_review_kept name o t old new x) (sym is)
     (nothing-reported (telling_key_review sought kind form asking) (λ x. x.file.text) key_review_kept name o t old new (same ∙ nothing_taken old))
-key_file_unread sought kind form asking name o t fault.TooLong old new r fails keeps put =
-    text-reported (telling_key_review sought kind form asking) (λ x. x.file.text) key_review_kept name o t old new r (key_fault_review form name TooLong)
-    (both_in _ _ _ o (λ s f k. (k, inr (f.1, no-end name s t k (over_limit (bytes_at s name) f.0), sym (too-long sought kind form asking name (bytes_at s name) f.0)))) fails keeps) put
-key_file_unread sought kind form asking name o t fault.Missing old new r fails keeps put =
-    text-reported (telling_key_review sought kind form asking) (λ x. x.file.text) key_review_kept name o t old new r (key_fault_review form name Unread)
-    (both_in _ _ _ o (λ s f k. (k, inr (f.1, no-end name s t k (ap within_limit f.0), sym (ap (key_review_over sought kind form asking name) f.0)))) fails keeps) put
-key_file_unread sought kind form asking name o t fault.Failed old new r fails keeps put =
-    text-reported (telling_key_review sought kind form asking) (λ x. x.file.text) key_review_kept name o t old new r (key_fault_review form name Unread)
-    (both_in _ _ _ o (λ s f k. (k, inl (f, refl))) fails keeps) put
+key_file_unread sought kind form asking name head o t fault.TooLong cause old new r front fails keeps why put =
+    text-reported (telling_key_review sought kind form asking) (λ x. x.file.text) key_review_kept name o t old new r (key_fault_review form head TooLong)
+    (both_in _ _ _ o (λ s f k. (
+      k,
+      inr (
+        f.1,
+        no-end name.path s t k (over_limit (bytes_at s name.path) f.0),
+        ap (λ (h : List ℕ). key_fault_review form h TooLong) front ∙ sym (too-long sought kind form asking (file_head form name) (given_at s name.path) f.0),
+      ),
+    )) fails keeps) put
+key_file_unread sought kind form asking name head o t fault.Missing cause old new r front fails keeps why put =
+    text-reported (telling_key_review sought kind form asking) (λ x. x.file.text) key_review_kept name o t old new r (key_fault_review form head (Unread cause))
+    (both_in _ _ _ o (λ s f k. (
+      k.0,
+      inr (
+        f.1,
+        no-end name.path s t k.0 (ap within_limit f.0),
+        ap (λ (h : List ℕ). key_fault_review form h (Unread cause)) front ∙ (ap (λ (c : UnreadCause). key_fault_review form (file_head form name) (Unread c)) k.1
+            ∙ ap (key_review_over sought kind form asking (file_head form name)) (sym (given-none (given_at s name.path) f.0))),
+      ),
+    )) fails (kept-and-cause name.path cause t o keeps why)) put
+key_file_unread sought kind form asking name head o t fault.Failed cause old new r front fails keeps why put =
+    text-reported (telling_key_review sought kind form asking) (λ x. x.file.text) key_review_kept name o t old new r (key_fault_review form head (Unread cause))
+    (both_in _ _ _ o (λ s f k. (
+      k.0,
+      inl (f, ap (λ (h : List ℕ). key_fault_review form h (Unread cause)) front ∙ ap (λ (c : UnreadCause). key_fault_review form (file_head form name) (Unread c)) k.1),
+    )) fails (kept-and-cause name.path cause t o keeps why)) put
+
+-- nothing of it is written where memory for its head could not be allocated
+pub key_nothing_put : (sought : List ℕ) (kind : ReviewKind) (form : Form) (asking : Asking) (name : NameSeen) (o : Option SourceState) (a : Option Account)
+    → TextWritten (telling_key_review sought kind form asking) (λ x. x.file.text) key_review_kept name o o a a (Err stop.Memory)
+key_nothing_put sought kind form asking name o a = nothing-reported (telling_key_review sought kind form asking) (λ x. x.file.text) key_review_kept name o o a a (nothing_taken a)
 
 -- ---- the key's file
 
-seeks-by : (kind : ReviewKind) (form : Form) (rule : List ℕ) (asking : Asking) (names : List (List ℕ)) (key : List ℕ) (s m : SourceState) (t : Option SourceState) (o : Option (List ℕ)) (r : Shown) → within_limit (bytes_at s key) ≡ o
+seeks-by : (kind : ReviewKind) (form : Form) (rule : List ℕ) (asking : Asking) (names : List NameSeen) (key : List ℕ) (s m : SourceState) (t : Option SourceState) (o : Option (List ℕ)) (r : Shown) → within_limit (bytes_at s key) ≡ o
     → KeepsOthers key s (Some m) → NoReadFailed s (Some m) → ReadToEnd key s (Some m) → RespondsTo (SeeksKey kind form rule asking names) (fingerprint_or_fault key o) m t r
     → SeeksKeyOfFile kind form rule asking names key s t r
 seeks-by kind form rule asking names key s m t o r is keeps none end h =
     inr (m, keeps, none, end, subst (λ (x : Option (List ℕ)). RespondsTo (SeeksKey kind form rule asking names) (fingerprint_or_fault key x) m t r) (sym is) h)
 
 -- one of which the first line was read
-pub key_file_sought : (kind : ReviewKind) (form : Form) (rule : List ℕ) (asking : Asking) (names : List (List ℕ)) (key line read : List ℕ) (o u t : Option SourceState) (old new : Option Account) (status : ℕ) → read ≡ line
+pub key_file_sought : (kind : ReviewKind) (form : Form) (rule : List ℕ) (asking : Asking) (names : List NameSeen) (key line read : List ℕ) (o u t : Option SourceState) (old new : Option Account) (status : ℕ) → read ≡ line
     → IfTells o (λ s. ((file : List ℕ) × (within_limit (bytes_at s key) ≡ Some file) × (line ≡ top_line file)) × IsLeft s (after_whole s key) u)
     → IfTells o (λ s. KeepsOthers key s u)
     → IfTells u (λ m. WritesAnswer (RespondsTo (SeeksKey kind form rule asking names) (or_key_fault (shown_offer_in read)) m t) old new status)
@@ -119,7 +147,7 @@ key_file_sought kind form rule asking names key line read (Some s) (Some m) t ol
     seeks-by kind form rule asking names key s m t (Some file) r load.0.1 (keeps counts) none (left-end key s (Some m) load.1)
     (subst (λ (x : Result Offered ShowError). RespondsTo (SeeksKey kind form rule asking names) (or_key_fault x) m t r) same seeks)) (h tells)
 
-unkeyed : (kind : ReviewKind) (form : Form) (rule : List ℕ) (asking : Asking) (names : List (List ℕ)) (key : List ℕ) (s : SourceState) (t : Option SourceState) (e : ReadError) (r : Shown) → FailsLoad key (bytes_at s key) s t e → KeepsOthers key s t
+unkeyed : (kind : ReviewKind) (form : Form) (rule : List ℕ) (asking : Asking) (names : List NameSeen) (key : List ℕ) (s : SourceState) (t : Option SourceState) (e : ReadError) (r : Shown) → FailsLoad key (bytes_at s key) s t e → KeepsOthers key s t
     → IsFaultOf key e r → SeeksKeyOfFile kind form rule asking names key s t r
 unkeyed kind form rule asking names key s None fault.Missing r fails keeps is = absurd keeps
 unkeyed kind form rule asking names key s None fault.TooLong r fails keeps is = absurd keeps
@@ -131,7 +159,7 @@ unkeyed kind form rule asking names key s t fault.Failed r fails keeps is = inl 
 unkeyed kind form rule asking names key s t fault.Memory r fails keeps is = absurd is
 
 -- one whose bytes could not be had
-pub key_file_unsought : {R E : Type 0} (view : R → Shown) (kind : ReviewKind) (form : Form) (rule : List ℕ) (asking : Asking) (names : List (List ℕ)) (key : List ℕ) (o t : Option SourceState) (e : ReadError) (res : Result R E)
+pub key_file_unsought : {R E : Type 0} (view : R → Shown) (kind : ReviewKind) (form : Form) (rule : List ℕ) (asking : Asking) (names : List NameSeen) (key : List ℕ) (o t : Option SourceState) (e : ReadError) (res : Result R E)
     → IfTells o (λ s. FailsLoad key (bytes_at s key) s t e) → IfTells o (λ s. KeepsOthers key s t) → IfOk res (λ r. IsFaultOf key e (view r))
     → IfTells o (λ s. IfOk res (λ r. SeeksKeyOfFile kind form rule asking names key s t (view r)))
 key_file_unsought view kind form rule asking names key None t e res fails keeps is = tt
@@ -140,12 +168,12 @@ key_file_unsought view kind form rule asking names key (Some s) t e (Ok r) fails
 
 -- ---- sources that are alike have the same reviews
 
-seeks-same : (kind : ReviewKind) (form : Form) (rule : List ℕ) (asking : Asking) (names : List (List ℕ)) (sought : List ℕ) (a b : SourceState) (u : Option SourceState) (r : Shown) → Alike a b
+seeks-same : (kind : ReviewKind) (form : Form) (rule : List ℕ) (asking : Asking) (names : List NameSeen) (sought : List ℕ) (a b : SourceState) (u : Option SourceState) (r : Shown) → Alike a b
     → SeeksKey kind form rule asking names sought a u r → SeeksKey kind form rule asking names sought b u r
 seeks-same kind form rule asking names sought a b u r e (inl (reported, h, is)) = inl (reported, files_same with_key_file (telling_key_review sought kind form asking) no_key_lines names a b u reported e h, is)
 seeks-same kind form rule asking names sought a b u r e (inr early) = inr (ends_same with_key_file (telling_key_review sought kind form asking) no_key_lines (λ reported. reported.lines.text) (λ x. x.file.text) names a b r e early)
 
-file-same : (kind : ReviewKind) (form : Form) (rule : List ℕ) (asking : Asking) (names : List (List ℕ)) (key : List ℕ) (a b : SourceState) (u : Option SourceState) (r : Shown) → Alike a b
+file-same : (kind : ReviewKind) (form : Form) (rule : List ℕ) (asking : Asking) (names : List NameSeen) (key : List ℕ) (a b : SourceState) (u : Option SourceState) (r : Shown) → Alike a b
     → SeeksKeyOfFile kind form rule asking names key a u r → SeeksKeyOfFile kind form rule asking names key b u r
 file-same kind form rule asking names key a b u r e (inl h) = inl (one-failed a b u key e h.0, h.1)
 file-same kind form rule asking names key a b u r e (inr (m, keeps, none, end, h)) = inr (
@@ -156,13 +184,13 @@ file-same kind form rule asking names key a b u r e (inr (m, keeps, none, end, h
   subst (λ (o : Option (List ℕ)). RespondsTo (SeeksKey kind form rule asking names) (fingerprint_or_fault key (within_limit o)) m u r) (file-alike a b key e) h,
 )
 
-by-same : (spelled : Bool) (kind : ReviewKind) (form : Form) (rule : List ℕ) (asking : Asking) (names : List (List ℕ)) (key : List ℕ) (a b : SourceState) (u : Option SourceState) (r : Shown) → Alike a b
+by-same : (spelled : Bool) (kind : ReviewKind) (form : Form) (rule : List ℕ) (asking : Asking) (names : List NameSeen) (key : List ℕ) (a b : SourceState) (u : Option SourceState) (r : Shown) → Alike a b
     → SeeksBy spelled kind form rule asking names key a u r → SeeksBy spelled kind form rule asking names key b u r
 by-same true kind form rule asking names key a b u r e h =
     spelled_same (SeeksKey kind form rule asking names) (spelled_fingerprint key) a b u r e (λ sought. seeks-same kind form rule asking names sought a b u r e) h
 by-same false kind form rule asking names key a b u r e h = file-same kind form rule asking names key a b u r e h
 
-pub reviews_for_same : (key : Option (List ℕ)) (kind : ReviewKind) (show : Show) (failing : List Code) (form : Form) (rule : List ℕ) (asking : Asking) (names : List (List ℕ)) (a b : SourceState) (u : Option SourceState) (r : Shown) → Alike a b
+pub reviews_for_same : (key : Option (List ℕ)) (kind : ReviewKind) (show : Show) (failing : List Code) (form : Form) (rule : List ℕ) (asking : Asking) (names : List NameSeen) (a b : SourceState) (u : Option SourceState) (r : Shown) → Alike a b
     → ReviewsFor key kind show failing form rule asking names a u r → ReviewsFor key kind show failing form rule asking names b u r
 reviews_for_same None kind show failing form rule asking names a b u r e (inl (reported, h, is)) = inl (reported, files_same with_file (telling_review kind show form asking) no_lines names a b u reported e h, is)
 reviews_for_same None kind show failing form rule asking names a b u r e (inr early) = inr (ends_same with_file (telling_review kind show form asking) no_lines (λ reported. reported.text) (λ x. x.text) names a b r e early)

@@ -1,5 +1,5 @@
 -- A run of `review` with `--key` that ends with status 1 found the key in one of the files, and one with status 0 in none.
-use Rattle.ssh_program.proofs.Imports.{◌≡◌, ◌∙◌, ◌<◌, ◌≤◌, ◌+◌, ◌++◌, cond, ℕ, Bool, true, false, List, [], ◌∷◌, length, Option, Some, None, Result, Ok, Err, option_map, ap, subst, sym, refl, inl, inr, arith, nat_lt, Row, TimeZone, Response, no_file_response, IfTells, SourceState, bytes_at, most_failures, within_limit, ReadsZone, Account, WritesResponse, source_of, RespondsTo, file_limit, KeepsOthers, TellsFile, TellsFiles, ShowError, Offered, shown_offer_in}
+use Rattle.ssh_program.proofs.Imports.{◌≡◌, map, ◌∙◌, ◌<◌, ◌≤◌, ◌+◌, ◌++◌, cond, ℕ, Bool, true, false, List, [], ◌∷◌, length, Option, Some, None, Result, Ok, Err, option_map, ap, subst, sym, refl, inl, inr, arith, nat_lt, Row, TimeZone, Response, no_file_response, IfTells, SourceState, bytes_at, most_failures, within_limit, ReadsZone, Account, WritesResponse, source_of, RespondsTo, file_limit, KeepsOthers, TellsFile, TellsFiles, ShowError, Offered, shown_offer_in}
 use Rattle.std.proofs.lemmas.Bool.{ltb-false}
 use Rattle.std.proofs.lemmas.List.{append-nil, append_assoc}
 use Rattle.std.specs.Prelude.{◌||◌}
@@ -10,6 +10,9 @@ use Rattle.ssh_print.specs.declared.showing.ShowError.TheVariants as show
 use Rattle.ssh_review.proofs.KeyListingLemmas.{host-key-nowhere, host-key-stands, key-nowhere, key-stands}
 use Rattle.ssh_review.specs.Forms.{total_line}
 use Rattle.ssh_review.specs.KeyReviews.{KeyReview, host_whole_key_review, key_fault_review, whole_key_review}
+use Rattle.ssh_files.specs.declared.files.UnreadCause.{UnreadCause}
+use Rattle.ssh_files.specs.SourceState.{bytes_of, cause_at, given_at}
+use Rattle.ssh_review.specs.FileNames.{NameSeen, file_head}
 use Rattle.ssh_review.specs.declared.end.FileFault.{FileFault}
 use Rattle.ssh_review.specs.declared.end.FileFault.TheVariants.{TooLong, Unread}
 use Rattle.ssh_review.specs.declared.end.Total.{Total}
@@ -53,31 +56,31 @@ without-fault Known sought asked name file h = by (nat_lt file_limit (length fil
     by false e = refl
 
 -- the file is there, and its review for the key is this
-record SoughtAs (asked : ReviewAsked) (sought name : List ℕ) (s : SourceState) (first : KeyReview) : Type 0 where
+record SoughtAs (asked : ReviewAsked) (sought : List ℕ) (name : NameSeen) (s : SourceState) (first : KeyReview) : Type 0 where
   file : List ℕ
-  there : bytes_at s name ≡ Some file
-  is : first ≡ whole_for_key asked.kind sought asked.form asked.asking name file
+  there : bytes_at s name.path ≡ Some file
+  is : first ≡ whole_for_key asked.kind sought asked.form asked.asking (file_head asked.form name) file
 
-abbrev telling : ReviewAsked → List ℕ → Telling KeyReview
+abbrev telling : ReviewAsked → List ℕ → Telling NameSeen KeyReview
 telling asked sought = telling_key_review sought asked.kind asked.form asked.asking
 
-no-fault : ◌≡◌ {A = Option FileFault} (Some Unread) None → ⊥
-no-fault e = cc
+no-fault : (fault : FileFault) → ◌≡◌ {A = Option FileFault} (Some fault) None → ⊥
+no-fault fault e = cc
 
-sought-by : (asked : ReviewAsked) (sought name : List ℕ) (s : SourceState) (first : KeyReview) (bytes : Option (List ℕ)) → bytes_at s name ≡ bytes
-    → first ≡ (telling asked sought).of_bytes name bytes → first.file.fault ≡ None → SoughtAs asked sought name s first
-sought-by asked sought name s first None there is whole = absurd (no-fault (sym (ap (λ (x : KeyReview). x.file.fault) is) ∙ whole))
-sought-by asked sought name s first (Some file) there is whole = record {
+sought-by : (asked : ReviewAsked) (sought : List ℕ) (name : NameSeen) (s : SourceState) (first : KeyReview) (given : Result (List ℕ) UnreadCause) → given_at s name.path ≡ given
+    → first ≡ (telling asked sought).of_bytes name given → first.file.fault ≡ None → SoughtAs asked sought name s first
+sought-by asked sought name s first (Err cause) there is whole = absurd (no-fault (Unread cause) (sym (ap (λ (x : KeyReview). x.file.fault) is) ∙ whole))
+sought-by asked sought name s first (Ok file) there is whole = record {
   file = file;
-  there = there;
-  is = is ∙ without-fault asked.kind sought asked name file (sym (ap (λ (x : KeyReview). x.file.fault) is) ∙ whole);
+  there = ap bytes_of there;
+  is = is ∙ without-fault asked.kind sought asked (file_head asked.form name) file (sym (ap (λ (x : KeyReview). x.file.fault) is) ∙ whole);
 }
 
-sought-as : (asked : ReviewAsked) (sought name : List ℕ) (s m : SourceState) (first : KeyReview) → TellsFile (telling asked sought) name s (Some m) first → first.file.fault ≡ None → SoughtAs asked sought name s first
-sought-as asked sought name s m first (keeps, inl (failed, is)) whole = absurd (no-fault (sym (ap (λ (x : KeyReview). x.file.fault) is) ∙ whole))
-sought-as asked sought name s m first (keeps, inr (unfailed, end, is)) whole = sought-by asked sought name s first (bytes_at s name) refl is whole
+sought-as : (asked : ReviewAsked) (sought : List ℕ) (name : NameSeen) (s m : SourceState) (first : KeyReview) → TellsFile (telling asked sought) name s (Some m) first → first.file.fault ≡ None → SoughtAs asked sought name s first
+sought-as asked sought name s m first (keeps, inl (failed, is)) whole = absurd (no-fault (Unread (cause_at s name.path)) (sym (ap (λ (x : KeyReview). x.file.fault) is) ∙ whole))
+sought-as asked sought name s m first (keeps, inr (unfailed, end, is)) whole = sought-by asked sought name s first (given_at s name.path) refl is whole
 
-few-failures : (asked : ReviewAsked) (sought name : List ℕ) (s m : SourceState) (first : KeyReview) → TellsFile (telling asked sought) name s (Some m) first → m.failures ≤ s.failures + 1
+few-failures : (asked : ReviewAsked) (sought : List ℕ) (name : NameSeen) (s m : SourceState) (first : KeyReview) → TellsFile (telling asked sought) name s (Some m) first → m.failures ≤ s.failures + 1
 few-failures asked sought name s m first (keeps, inl (failed, is)) = let one : m.failures ≡ s.failures + 1 = failed.0 in omega (arith, one)
 few-failures asked sought name s m first (keeps, inr (unfailed, end, is)) = let same : m.failures ≡ s.failures = unfailed in omega (arith, same)
 
@@ -98,11 +101,11 @@ record Printed (sofar reported : KeyLines) (rest : List ℕ) (stands : Bool) : T
   faultless : sofar.lines.total.faults ≡ 0
 
 -- each of the files was reviewed without a fault, this text is printed of them, and the key stands in one of them or not
-abbrev EachSought : ReviewAsked → List ℕ → List (List ℕ) → SourceState → List ℕ → Bool → Type 0
+abbrev EachSought : ReviewAsked → List ℕ → List NameSeen → SourceState → List ℕ → Bool → Type 0
 EachSought asked sought [] s rest stands = (rest ≡ []) × (stands ≡ false)
 EachSought asked sought (name ∷ names) s rest stands =
     (first : KeyReview) × SoughtAs asked sought name s first
-    × ((m : SourceState) × (more : List ℕ) × (others : Bool) × KeepsOthers name s (Some m) × (rest ≡ first.file.text ++ more) × (stands ≡ (first.stands || others))
+    × ((m : SourceState) × (more : List ℕ) × (others : Bool) × KeepsOthers name.path s (Some m) × (rest ≡ first.file.text ++ more) × (stands ≡ (first.stands || others))
     × EachSought asked sought names m more others)
 
 or-none : (b : Bool) → b ≡ (b || false)
@@ -113,7 +116,7 @@ or-assoc : (a b c : Bool) → ((a || b) || c) ≡ (a || (b || c))
 or-assoc true b c = refl
 or-assoc false b c = refl
 
-each-sought : (asked : ReviewAsked) (sought : List ℕ) (sofar : KeyLines) (names : List (List ℕ)) (s : SourceState) (t : Option SourceState) (reported : KeyLines)
+each-sought : (asked : ReviewAsked) (sought : List ℕ) (sofar : KeyLines) (names : List NameSeen) (s : SourceState) (t : Option SourceState) (reported : KeyLines)
     → s.failures + length names < most_failures → TellsFiles with_key_file (telling asked sought) sofar names s t reported → reported.lines.total.faults ≡ 0
     → (rest : List ℕ) × (stands : Bool) × Printed sofar reported rest stands × EachSought asked sought names s rest stands
 each-sought asked sought sofar [] s t reported room (unfailed, is) none = (
@@ -142,7 +145,7 @@ each-sought asked sought sofar (name ∷ names) s t reported room (m, first, one
       (first, sought-as asked sought name s m first one whole, (m, rest, others, one.0, refl, refl, each)),
     )
 
-prints-each : (asked : ReviewAsked) (sought text before after : List ℕ) (names : List (List ℕ)) (s : SourceState) (rest : List ℕ) (stands : Bool) → EachSought asked sought names s rest stands
+prints-each : (asked : ReviewAsked) (sought text before after : List ℕ) (names : List NameSeen) (s : SourceState) (rest : List ℕ) (stands : Bool) → EachSought asked sought names s rest stands
     → text ≡ before ++ (rest ++ after) → PrintsKeyReviews asked sought text names s
 prints-each asked sought text before after [] s rest stands h is = tt
 prints-each asked sought text before after (name ∷ names) s rest stands (first, found, (m, more, others, keeps, are, standing, each)) is =
@@ -155,22 +158,22 @@ none-of : (a b : Bool) → false ≡ (a || b) → (a ≡ false) × (b ≡ false)
 none-of true b h = cc
 none-of false b h = (refl, sym h)
 
-nowhere-in : (asked : ReviewAsked) (sought : List ℕ) (names : List (List ℕ)) (s : SourceState) (rest : List ℕ) (stands : Bool) → EachSought asked sought names s rest stands → stands ≡ false
-    → EachFile (StandsNowhereIn asked.kind sought) names s
+nowhere-in : (asked : ReviewAsked) (sought : List ℕ) (names : List NameSeen) (s : SourceState) (rest : List ℕ) (stands : Bool) → EachSought asked sought names s rest stands → stands ≡ false
+    → EachFile (StandsNowhereIn asked.kind sought) (map (λ name. name.path) names) s
 nowhere-in asked sought [] s rest stands h none = tt
 nowhere-in asked sought (name ∷ names) s rest stands (first, found, (m, more, others, keeps, are, standing, each)) none =
     let (here, later) = none-of first.stands others (sym none ∙ standing) in
     let not_here = sym (ap (λ (x : KeyReview). x.stands) found.is) ∙ here in
-    ((found.file, found.there, holds-none asked.kind sought asked name found.file not_here), (m, keeps, nowhere-in asked sought names m more others each later))
+    ((found.file, found.there, holds-none asked.kind sought asked (file_head asked.form name) found.file not_here), (m, keeps, nowhere-in asked sought names m more others each later))
 
-stands-in : (asked : ReviewAsked) (sought : List ℕ) (names : List (List ℕ)) (s : SourceState) (rest : List ℕ) (stands : Bool) → EachSought asked sought names s rest stands → stands ≡ true
-    → SomeFile (StandsIn asked.kind sought) names s
+stands-in : (asked : ReviewAsked) (sought : List ℕ) (names : List NameSeen) (s : SourceState) (rest : List ℕ) (stands : Bool) → EachSought asked sought names s rest stands → stands ≡ true
+    → SomeFile (StandsIn asked.kind sought) (map (λ name. name.path) names) s
 stands-in asked sought [] s rest stands h some = (let no : true ≡ false = sym some ∙ h.1 in cc)
 stands-in asked sought (name ∷ names) s rest stands (first, found, (m, more, others, keeps, are, standing, each)) some =
     by first.stands refl (sym standing ∙ some) (stands-in asked sought names m more others each)
   where
-    by : (b : Bool) → first.stands ≡ b → (b || others) ≡ true → (others ≡ true → SomeFile (StandsIn asked.kind sought) names m) → SomeFile (StandsIn asked.kind sought) (name ∷ names) s
-    by true is e later = inl (found.file, found.there, holds asked.kind sought asked name found.file (sym (ap (λ (x : KeyReview). x.stands) found.is) ∙ is))
+    by : (b : Bool) → first.stands ≡ b → (b || others) ≡ true → (others ≡ true → SomeFile (StandsIn asked.kind sought) (map (λ name. name.path) names) m) → SomeFile (StandsIn asked.kind sought) (map (λ name. name.path) (name ∷ names)) s
+    by true is e later = inl (found.file, found.there, holds asked.kind sought asked (file_head asked.form name) found.file (sym (ap (λ (x : KeyReview). x.stands) found.is) ∙ is))
     by false is e later = inr (m, keeps, later e)
 
 -- ---- a response
@@ -201,8 +204,8 @@ status-stands total stands h = by (nat_lt 0 total.faults) stands h
 -- what the files come to, by the status
 record Found (asked : ReviewAsked) (sought : List ℕ) (s : SourceState) (r : Response) : Type 0 where
   reviews : PrintsKeyReviews asked sought r.text asked.names s
-  nowhere : r.status ≡ 0 → EachFile (StandsNowhereIn asked.kind sought) asked.names s
-  stands : r.status ≡ 1 → SomeFile (StandsIn asked.kind sought) asked.names s
+  nowhere : r.status ≡ 0 → EachFile (StandsNowhereIn asked.kind sought) (map (λ name. name.path) asked.names) s
+  stands : r.status ≡ 1 → SomeFile (StandsIn asked.kind sought) (map (λ name. name.path) asked.names) s
 
 found-of : (asked : ReviewAsked) (sought : List ℕ) (s : SourceState) (t : Option SourceState) (r : Response) → s.failures + length asked.names < most_failures
     → SeeksKey asked.kind asked.form asked.rule asked.asking asked.names sought s t r → r.status < 2 → Found asked sought s r
@@ -299,7 +302,8 @@ sought-in rows names key zone s t r named room read for_key (Err fault) spelled 
     let same = status-of r fault is in
     absurd (omega (arith, two, same, few))
 sought-in rows names key zone s t r named room read for_key (Ok q) spelled h few =
-    let are = ok-same {A = List (List ℕ)} {B = Response} names q.names (sym named ∙ review-names rows zone q spelled) in
+    let (words, needed, as_many) = review-names rows zone q spelled in
+    let are = ok-same {A = List (List ℕ)} {B = Response} names words (sym named ∙ needed) in
     let (show, form, is, asked) = asks-key rows zone q key for_key spelled in
     let a : ReviewAsked = record { kind = q.kind; show = show; form = form; failing = q.failing; rule = q.rule; asking = q.asking; names = q.names } in
     record {
@@ -307,7 +311,7 @@ sought-in rows names key zone s t r named room read for_key (Ok q) spelled h few
       read = read;
       asked = a;
       spelled = asked;
-      given_key = given-by a key s t r (is_fingerprint key) refl (subst (λ (x : List (List ℕ)). s.failures + length x < most_failures) are room)
+      given_key = given-by a key s t r (is_fingerprint key) refl (subst (λ (n : ℕ). s.failures + n < most_failures) (ap length are ∙ sym as_many) room)
           (subst (λ (x : FormAsked). ReviewsAs x (Some key) q.kind q.failing q.rule q.asking q.names s t r) is h) few;
     }
 

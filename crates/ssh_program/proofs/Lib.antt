@@ -56,3 +56,4 @@ pub mod PageLemmas
 mod ReviewFormLemmas
 mod PageRunLemmas
 mod PageTotalLemmas
+mod NamingLemmas

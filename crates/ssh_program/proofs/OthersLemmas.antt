@@ -1,5 +1,6 @@
 -- What reads of one file leave of the others.
-use Rattle.ssh_program.proofs.Imports.{◌≡◌, ◌∙◌, ℕ, Bool, true, false, List, Option, Some, None, Result, Err, refl, sym, ap, subst, bytes_eq, Chosen, ChoosesKnown, IfTells, SourceState, choosing, dash, left_of, left_with, named_file, nothing, open_file, standard_input, KeepsFiles, AuditError, Read, FailsOn, ReadsOn}
+use Rattle.ssh_program.proofs.Imports.{◌≡◌, ◌∙◌, ℕ, Bool, true, false, List, Option, Some, None, Result, Ok, Err, refl, sym, ap, subst, bytes_eq, Chosen, ChoosesKnown, IfTells, SourceState, choosing, dash, left_of, left_with, named_file, nothing, open_file, standard_input, KeepsFiles, AuditError, Read, FailsOn, ReadsOn}
+use Rattle.ssh_files.specs.declared.files.UnreadCause.{UnreadCause}
 use Rattle.ssh_program.proofs.ChosenLemmas.{either_way}
 
 named-kept : (c : Chosen) (s : SourceState) (left : List ℕ) → (left_with c s left).named ≡ s.named
@@ -12,9 +13,9 @@ input-kept nothing s left other = refl
 input-kept standard_input s left other = absurd (other refl)
 input-kept (named_file name bytes) s left other = refl
 
-opened : (name : List ℕ) (o : Option (List ℕ)) → open_file name o ≡ standard_input → ⊥
-opened name None h = cc
-opened name (Some bytes) h = cc
+opened : (name : List ℕ) (given : Result (List ℕ) UnreadCause) → open_file name given ≡ standard_input → ⊥
+opened name (Err cause) h = cc
+opened name (Ok bytes) h = cc
 
 not-input : (s : SourceState) (name : List ℕ) (b : Bool) → bytes_eq name dash ≡ b → b ≡ false → (choosing s name).chosen ≡ standard_input → ⊥
 not-input s name true e h c = cc

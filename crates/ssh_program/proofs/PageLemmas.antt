@@ -13,10 +13,14 @@ use Rattle.ssh_page.specs.Questions.{QuestionSeen}
 use Rattle.ssh_page.specs.declared.header.PageTotals.{PageTotals}
 use Rattle.ssh_page.specs.declared.mend.CodeCount.{CodeCount}
 use Rattle.ssh_print.specs.Responses.{Response as Shown}
+use Rattle.ssh_files.specs.declared.files.UnreadCause.{UnreadCause}
+use Rattle.ssh_files.specs.SourceState.{bytes_of, cause_at, cause_of, given_at}
+use Rattle.ssh_files.proofs.SourceLemmas.{given-all, given-none}
 use Rattle.ssh_review.specs.declared.end.FileFault.{FileFault}
 use Rattle.ssh_review.specs.declared.end.FileFault.TheVariants.{Unread}
 use Rattle.ssh_review.specs.declared.end.Total.{Total}
 use Rattle.ssh_review.specs.Ends.{total_words}
+use Rattle.ssh_review.specs.FileNames.{NameSeen, shown_name}
 use Rattle.ssh_review.specs.PageFiles.{unread_row, unread_section}
 use Rattle.ssh_program.specs.declared.review_page.MadePage.{MadePage}
 use Rattle.ssh_program.specs.declared.streaming.FileReported.{FileReported}
@@ -24,7 +28,7 @@ use Rattle.ssh_program.specs.PageReviews.{FileGiven, IsReported, PageMarks, Page
 use Rattle.ssh_program.specs.PageFronts.{codes_found, page_front, page_question, page_totals}
 use Rattle.ssh_program.specs.Printing.{WritesAnswer}
 use Rattle.ssh_program.specs.Totals.{with_counted}
-use Rattle.ssh_program.proofs.FileLemmas.{both_in, within-false}
+use Rattle.ssh_program.proofs.FileLemmas.{both_in, kept-and-cause, within-false}
 
 -- ---- one file
 
@@ -44,60 +48,80 @@ within-is : (file : List ℕ) → length file ≤ file_limit → Ok file ≡ wit
 within-is file few = ap (λ (b : Bool). if b then Err TooLong else Ok file) (sym (within-false (length file) few))
 
 -- a file that was read
-given-read : (name file bytes : List ℕ) (o t : Option SourceState) → length bytes ≤ file_limit → bytes ≡ file
-    → IfTells o (λ s. (within_limit (bytes_at s name) ≡ Some file) × IsLeft s (after_whole s name) t) → IfTells o (λ s. KeepsOthers name s t)
-    → IfTells o (λ s. TellsFile telling_given name s t (record { name = name; bytes = Ok bytes }))
-given-read name file bytes None t few is loads keeps = tt
-given-read name file bytes (Some s) t few is loads keeps = λ counts.
+given-read : (name : NameSeen) (shown file bytes : List ℕ) (o t : Option SourceState) → shown ≡ shown_name name → length bytes ≤ file_limit → bytes ≡ file
+    → IfTells o (λ s. (within_limit (bytes_at s name.path) ≡ Some file) × IsLeft s (after_whole s name.path) t) → IfTells o (λ s. KeepsOthers name.path s t)
+    → IfTells o (λ s. TellsFile telling_given name s t (record { name = shown; bytes = Ok bytes }))
+given-read name shown file bytes None t front few is loads keeps = tt
+given-read name shown file bytes (Some s) t front few is loads keeps = λ counts.
     let load = loads counts in (
       keeps counts,
       inr (
-        left-none s (after_whole s name) t load.1,
-        left-end name s t load.1,
-        ap (as-given name) (within-is bytes few ∙ (ap within is ∙ ap given_bytes (sym (read-all (bytes_at s name) file load.0)))),
+        left-none s (after_whole s name.path) t load.1,
+        left-end name.path s t load.1,
+        ap (λ (n : List ℕ). as-given n (Ok bytes)) front
+            ∙ ap (as-given (shown_name name)) (within-is bytes few ∙ (ap within is ∙ ap given_bytes (sym (given-all (given_at s name.path) file load.0)))),
       ),
     )
 
-pub file-line_reports : {E : Type 0} (kind : FileKind) (number : ℕ) (asking : Asking) (name file bytes : List ℕ) (o t : Option SourceState) (res : Result FileReported E) (sections after register later : List ℕ)
-    → length bytes ≤ file_limit → bytes ≡ file → IfTells o (λ s. (within_limit (bytes_at s name) ≡ Some file) × IsLeft s (after_whole s name) t) → IfTells o (λ s. KeepsOthers name s t)
-    → OnOk res (after ≡ sections ++ marks (section_by kind number asking name (Ok bytes))) → OnOk res (later ≡ register ++ marks (row_by kind number asking name (Ok bytes)))
+pub file-line_reports : {E : Type 0} (kind : FileKind) (number : ℕ) (asking : Asking) (name : NameSeen) (shown file bytes : List ℕ) (o t : Option SourceState) (res : Result FileReported E) (sections after register later : List ℕ)
+    → shown ≡ shown_name name → length bytes ≤ file_limit → bytes ≡ file → IfTells o (λ s. (within_limit (bytes_at s name.path) ≡ Some file) × IsLeft s (after_whole s name.path) t) → IfTells o (λ s. KeepsOthers name.path s t)
+    → OnOk res (after ≡ sections ++ marks (section_by kind number asking shown (Ok bytes))) → OnOk res (later ≡ register ++ marks (row_by kind number asking shown (Ok bytes)))
     → IfOk res (λ reported. reported ≡ given_kept kind asking (Ok bytes))
     → IfOk res (λ reported. (given : FileGiven) × IfTells o (λ s. TellsFile telling_given name s t given) × IsReported kind number asking given sections after register later reported)
-file-line_reports kind number asking name file bytes o t res sections after register later few is loads keeps section row kept =
+file-line_reports kind number asking name shown file bytes o t res sections after register later front few is loads keeps section row kept =
     with-given res (λ given. IfTells o (λ s. TellsFile telling_given name s t given)) (λ given reported. IsReported kind number asking given sections after register later reported)
-    (record { name = name; bytes = Ok bytes }) (given-read name file bytes o t few is loads keeps)
-    (reports-of res (after ≡ sections ++ marks (section_by kind number asking name (Ok bytes))) (later ≡ register ++ marks (row_by kind number asking name (Ok bytes))) (given_kept kind asking (Ok bytes)) section row kept)
+    (record { name = shown; bytes = Ok bytes }) (given-read name shown file bytes o t front few is loads keeps)
+    (reports-of res (after ≡ sections ++ marks (section_by kind number asking shown (Ok bytes))) (later ≡ register ++ marks (row_by kind number asking shown (Ok bytes))) (given_kept kind asking (Ok bytes)) section row kept)
 
 -- one that gives no bytes
-too-long : (bytes : Option (List ℕ)) → IsTooLong bytes → Err TooLong ≡ given_bytes bytes
-too-long None h = absurd h
-too-long (Some bytes) h = ap (λ (b : Bool). if b then Err TooLong else Ok bytes) (sym (lt-ltb file_limit (length bytes) h))
+too-long : (given : Result (List ℕ) UnreadCause) → IsTooLong (bytes_of given) → Err TooLong ≡ given_bytes given
+too-long (Err cause) h = absurd h
+too-long (Ok bytes) h = ap (λ (b : Bool). if b then Err TooLong else Ok bytes) (sym (lt-ltb file_limit (length bytes) h))
 
-given-unread : (name : List ℕ) (o t : Option SourceState) (e : ReadError) → (e ≡ read.Memory → ⊥) → IfTells o (λ s. FailsLoad name (bytes_at s name) s t e) → IfTells o (λ s. KeepsOthers name s t)
-    → IfTells o (λ s. TellsFile telling_given name s t (record { name = name; bytes = Err (fault_read e) }))
-given-unread name o t read.Memory some fails keeps = absurd (some refl)
-given-unread name o t read.TooLong some fails keeps =
-    both_in _ _ _ o (λ s f k. (k, inr (f.1, no-end name s t k (over_limit (bytes_at s name) f.0), ap (as-given name) (too-long (bytes_at s name) f.0)))) fails keeps
-given-unread name o t read.Missing some fails keeps =
-    both_in _ _ _ o (λ s f k. (k, inr (f.1, no-end name s t k (ap within_limit f.0), ap (λ (b : Option (List ℕ)). as-given name (given_bytes b)) (sym f.0)))) fails keeps
-given-unread name o t read.Failed some fails keeps = both_in _ _ _ o (λ s f k. (k, inl (f, refl))) fails keeps
+given-unread : (name : NameSeen) (shown : List ℕ) (o t : Option SourceState) (e : ReadError) (cause : UnreadCause) → shown ≡ shown_name name → (e ≡ read.Memory → ⊥) → IfTells o (λ s. FailsLoad name.path (bytes_at s name.path) s t e)
+    → IfTells o (λ s. KeepsOthers name.path s t) → IfTells o (λ s. cause ≡ cause_at s name.path) → IfTells o (λ s. TellsFile telling_given name s t (record { name = shown; bytes = Err (fault_read e cause) }))
+given-unread name shown o t read.Memory cause front some fails keeps why = absurd (some refl)
+given-unread name shown o t read.TooLong cause front some fails keeps why =
+    both_in _ _ _ o (λ s f k. (
+      k,
+      inr (
+        f.1,
+        no-end name.path s t k (over_limit (bytes_at s name.path) f.0),
+        ap (λ (n : List ℕ). as-given n (Err TooLong)) front ∙ ap (as-given (shown_name name)) (too-long (given_at s name.path) f.0),
+      ),
+    )) fails keeps
+given-unread name shown o t read.Missing cause front some fails keeps why =
+    both_in _ _ _ o (λ s f k. (
+      k.0,
+      inr (
+        f.1,
+        no-end name.path s t k.0 (ap within_limit f.0),
+        ap (λ (n : List ℕ). as-given n (Err (Unread cause))) front ∙ (ap (λ (c : UnreadCause). as-given (shown_name name) (Err (Unread c))) k.1
+            ∙ ap (λ (g : Result (List ℕ) UnreadCause). as-given (shown_name name) (given_bytes g)) (sym (given-none (given_at s name.path) f.0))),
+      ),
+    )) fails (kept-and-cause name.path cause t o keeps why)
+given-unread name shown o t read.Failed cause front some fails keeps why =
+    both_in _ _ _ o (λ s f k. (
+      k.0,
+      inl (f, ap (λ (n : List ℕ). as-given n (Err (Unread cause))) front ∙ ap (λ (c : UnreadCause). as-given (shown_name name) (Err (Unread c))) k.1),
+    )) fails (kept-and-cause name.path cause t o keeps why)
 
-pub file-unread : {E : Type 0} (kind : FileKind) (number : ℕ) (asking : Asking) (name : List ℕ) (o t : Option SourceState) (e : ReadError) (res : Result FileReported E) (sections after register later : List ℕ)
-    → IfTells o (λ s. FailsLoad name (bytes_at s name) s t e) → IfTells o (λ s. KeepsOthers name s t)
-    → OnOk res (e ≡ read.Memory → ⊥) → OnOk res (after ≡ sections ++ marks (unread_section number name (fault_read e))) → OnOk res (later ≡ register ++ marks (unread_row number name (fault_read e)))
-    → IfOk res (λ reported. reported ≡ fault_kept (fault_read e))
+pub file-unread : {E : Type 0} (kind : FileKind) (number : ℕ) (asking : Asking) (name : NameSeen) (shown : List ℕ) (o t : Option SourceState) (e : ReadError) (cause : UnreadCause) (res : Result FileReported E) (sections after register later : List ℕ)
+    → shown ≡ shown_name name → IfTells o (λ s. FailsLoad name.path (bytes_at s name.path) s t e) → IfTells o (λ s. KeepsOthers name.path s t) → IfTells o (λ s. cause ≡ cause_at s name.path)
+    → OnOk res (e ≡ read.Memory → ⊥) → OnOk res (after ≡ sections ++ marks (unread_section number shown (fault_read e cause))) → OnOk res (later ≡ register ++ marks (unread_row number shown (fault_read e cause)))
+    → IfOk res (λ reported. reported ≡ fault_kept (fault_read e cause))
     → IfOk res (λ reported. (given : FileGiven) × IfTells o (λ s. TellsFile telling_given name s t given) × IsReported kind number asking given sections after register later reported)
-file-unread kind number asking name o t e (Ok reported) sections after register later fails keeps some section row kept =
-    (as-given name (Err (fault_read e)), given-unread name o t e some fails keeps, (section, row, kept))
-file-unread kind number asking name o t e (Err x) sections after register later fails keeps some section row kept = tt
+file-unread kind number asking name shown o t e cause (Ok reported) sections after register later front fails keeps why some section row kept =
+    (as-given shown (Err (fault_read e cause)), given-unread name shown o t e cause front some fails keeps why, (section, row, kept))
+file-unread kind number asking name shown o t e cause (Err x) sections after register later front fails keeps why some section row kept = tt
 
 -- ---- all files
 
 -- the files at the front tell this, in marked text
-abbrev pub ReportedSoFar : ReviewKind → Asking → List (List ℕ) → List (List ℕ) → SourceState → Option SourceState → PageMarks → Type 0
+abbrev pub ReportedSoFar : ReviewKind → Asking → List NameSeen → List NameSeen → SourceState → Option SourceState → PageMarks → Type 0
 ReportedSoFar kind asking names left s now k = (sofar : PageSofar) × (k ≡ page_kept sofar) × Leads (with_given kind asking) telling_given no_page names s left now sofar
 
-pub reports-first : (kind : ReviewKind) (asking : Asking) (names : List (List ℕ)) (o : Option SourceState) (k : PageMarks) → k ≡ page_kept no_page → IfTells o (λ s. ReportedSoFar kind asking names names s o k)
+pub reports-first : (kind : ReviewKind) (asking : Asking) (names : List NameSeen) (o : Option SourceState) (k : PageMarks) → k ≡ page_kept no_page → IfTells o (λ s. ReportedSoFar kind asking names names s o k)
 reports-first kind asking names None k is = tt
 reports-first kind asking names (Some s) k is = λ counts. (no_page, is, leads_begin (with_given kind asking) telling_given no_page names (Some s) counts)
 
@@ -107,7 +131,7 @@ kept-more : (kind : ReviewKind) (asking : Asking) (sofar : PageSofar) (f : FileG
     → record { sections = sections; register = register; total = with_counted k.total reported.counts reported.fault } ≡ page_kept (with_given kind asking sofar f)
 kept-more kind asking sofar f k sections register reported is (section, row, kept) = rw (section, row, kept, is) refl
 
-pub reports-next : (kind : ReviewKind) (asking : Asking) (names : List (List ℕ)) (name : List ℕ) (left rest : List (List ℕ)) (o now next : Option SourceState) (k after : PageMarks) (reported : FileReported) (like : FileKind)
+pub reports-next : (kind : ReviewKind) (asking : Asking) (names : List NameSeen) (name : NameSeen) (left rest : List NameSeen) (o now next : Option SourceState) (k after : PageMarks) (reported : FileReported) (like : FileKind)
     → left ≡ name ∷ rest → IfTells o (λ s. ReportedSoFar kind asking names left s now k) → like ≡ page_kind kind
     → (given : FileGiven) × IfTells now (λ m. TellsFile telling_given name m next given) × IsReported like k.total.files asking given k.sections after.sections k.register after.register reported
     → after.total ≡ with_counted k.total reported.counts reported.fault
@@ -122,7 +146,7 @@ reports-next kind asking names name left rest (Some s) now next k after reported
       leads_next (with_given kind asking) telling_given no_page names name left rest (Some s) now next sofar given (with_given kind asking sofar given) is refl (λ _. lead) file counts,
     )
 
-pub reports-last : (kind : ReviewKind) (asking : Asking) (names left : List (List ℕ)) (o now : Option SourceState) (k : PageMarks) → left ≡ []
+pub reports-last : (kind : ReviewKind) (asking : Asking) (names left : List NameSeen) (o now : Option SourceState) (k : PageMarks) → left ≡ []
     → IfTells o (λ s. ReportedSoFar kind asking names left s now k) → IfTells o (λ s. PageReported kind asking names s now k)
 reports-last kind asking names left None now k none h = tt
 reports-last kind asking names left (Some s) now k none h = λ counts.
@@ -163,7 +187,7 @@ page-is failing title kind rule asking p =
     sym (flat_map-append mark_html (page_front title q t found) body) ∙ ap page (sym (parts-are title q t found words p.sections p.register)) in
     ap (λ (x : List ℕ). record { status = (parts_response failing title kind rule asking (page_kept p)).status; text = x }) text
 
-pub page-made : (failing : List Code) (title rule : List ℕ) (kind : ReviewKind) (asking : Asking) (names : List (List ℕ)) (o t : Option SourceState) (k : PageMarks) (m : MadePage)
+pub page-made : (failing : List Code) (title rule : List ℕ) (kind : ReviewKind) (asking : Asking) (names : List NameSeen) (o t : Option SourceState) (k : PageMarks) (m : MadePage)
     → IfTells o (λ s. PageReported kind asking names s t k) → made_response m ≡ parts_response failing title kind rule asking k
     → IfTells o (λ s. ReviewsPage title kind failing rule asking names s t (made_response m))
 page-made failing title rule kind asking names None t k m line_reports is = tt

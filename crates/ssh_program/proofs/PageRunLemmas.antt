@@ -4,6 +4,9 @@ use Rattle.std.specs.Prelude.{nat_lt}
 use Rattle.ssh_page.specs.Documents.{marks}
 use Rattle.ssh_page.specs.Expanding.{mark_html, page}
 use Rattle.ssh_review.proofs.PageListingLemmas.{host-row-listed, row-listed}
+use Rattle.ssh_files.specs.declared.files.UnreadCause.{UnreadCause}
+use Rattle.ssh_files.specs.SourceState.{bytes_of, cause_at, given_at}
+use Rattle.ssh_review.specs.FileNames.{NameSeen, shown_name}
 use Rattle.ssh_review.specs.declared.end.FileFault.{FileFault}
 use Rattle.ssh_review.specs.declared.end.FileFault.TheVariants.{Unread}
 use Rattle.ssh_review.specs.Ends.{total_words}
@@ -30,10 +33,10 @@ use Rattle.ssh_program.proofs.SpelledBytes.{ok-same}
 -- ---- one file
 
 -- the file is there, and this is given of it
-record GivenAs (name : List ℕ) (s : SourceState) (f : FileGiven) : Type 0 where
+record GivenAs (name : NameSeen) (s : SourceState) (f : FileGiven) : Type 0 where
   file : List ℕ
-  there : bytes_at s name ≡ Some file
-  is : f ≡ record { name = name; bytes = Ok file }
+  there : bytes_at s name.path ≡ Some file
+  is : f ≡ record { name = shown_name name; bytes = Ok file }
 
 some-fault : (fault : FileFault) → ◌≡◌ {A = Option FileFault} (Some fault) None → ⊥
 some-fault fault h = cc
@@ -41,32 +44,32 @@ some-fault fault h = cc
 abbrev fault-of : ReviewKind → PageAsked → FileGiven → Option FileFault
 fault-of kind asked f = (given_kept (page_kind kind) asked.asking f.bytes).fault
 
-given-file : (kind : ReviewKind) (asked : PageAsked) (name file : List ℕ) (s : SourceState) (f : FileGiven) (long : Bool) → bytes_at s name ≡ Some file
-    → f ≡ record { name = name; bytes = if long then Err TooLong else Ok file } → fault-of kind asked f ≡ None → GivenAs name s f
+given-file : (kind : ReviewKind) (asked : PageAsked) (name : NameSeen) (file : List ℕ) (s : SourceState) (f : FileGiven) (long : Bool) → bytes_at s name.path ≡ Some file
+    → f ≡ record { name = shown_name name; bytes = if long then Err TooLong else Ok file } → fault-of kind asked f ≡ None → GivenAs name s f
 given-file kind asked name file s f true there is none = absurd (some-fault TooLong (sym (ap (fault-of kind asked) is) ∙ none))
 given-file kind asked name file s f false there is none = record { file = file; there = there; is = is }
 
-given-by : (kind : ReviewKind) (asked : PageAsked) (name : List ℕ) (s : SourceState) (f : FileGiven) (bytes : Option (List ℕ)) → bytes_at s name ≡ bytes
-    → f ≡ record { name = name; bytes = given_bytes bytes } → fault-of kind asked f ≡ None → GivenAs name s f
-given-by kind asked name s f None there is none = absurd (some-fault Unread (sym (ap (fault-of kind asked) is) ∙ none))
-given-by kind asked name s f (Some file) there is none = given-file kind asked name file s f (nat_lt file_limit (length file)) there is none
+given-by : (kind : ReviewKind) (asked : PageAsked) (name : NameSeen) (s : SourceState) (f : FileGiven) (given : Result (List ℕ) UnreadCause) → given_at s name.path ≡ given
+    → f ≡ record { name = shown_name name; bytes = given_bytes given } → fault-of kind asked f ≡ None → GivenAs name s f
+given-by kind asked name s f (Err cause) there is none = absurd (some-fault (Unread cause) (sym (ap (fault-of kind asked) is) ∙ none))
+given-by kind asked name s f (Ok file) there is none = given-file kind asked name file s f (nat_lt file_limit (length file)) (ap bytes_of there) is none
 
-given-as : (kind : ReviewKind) (asked : PageAsked) (name : List ℕ) (s m : SourceState) (f : FileGiven) → TellsFile telling_given name s (Some m) f → fault-of kind asked f ≡ None → GivenAs name s f
-given-as kind asked name s m f (keeps, inl (failed, is)) none = absurd (some-fault Unread (sym (ap (fault-of kind asked) is) ∙ none))
-given-as kind asked name s m f (keeps, inr (unfailed, end, is)) none = given-by kind asked name s f (bytes_at s name) refl is none
+given-as : (kind : ReviewKind) (asked : PageAsked) (name : NameSeen) (s m : SourceState) (f : FileGiven) → TellsFile telling_given name s (Some m) f → fault-of kind asked f ≡ None → GivenAs name s f
+given-as kind asked name s m f (keeps, inl (failed, is)) none = absurd (some-fault (Unread (cause_at s name.path)) (sym (ap (fault-of kind asked) is) ∙ none))
+given-as kind asked name s m f (keeps, inr (unfailed, end, is)) none = given-by kind asked name s f (given_at s name.path) refl is none
 
-few-failures : (name : List ℕ) (s m : SourceState) (f : FileGiven) → TellsFile telling_given name s (Some m) f → m.failures ≤ s.failures + 1
+few-failures : (name : NameSeen) (s m : SourceState) (f : FileGiven) → TellsFile telling_given name s (Some m) f → m.failures ≤ s.failures + 1
 few-failures name s m f (keeps, inl (failed, is)) = let one : m.failures ≡ s.failures + 1 = failed.0 in omega (arith, one)
 few-failures name s m f (keeps, inr (unfailed, end, is)) = let same : m.failures ≡ s.failures = unfailed in omega (arith, same)
 
 -- ---- all files
 
 -- each of the files was reviewed without a fault, and this is the marked text of their sections
-abbrev EachShown : PageAsked → ℕ → List (List ℕ) → SourceState → List ℕ → Type 0
+abbrev EachShown : PageAsked → ℕ → List NameSeen → SourceState → List ℕ → Type 0
 EachShown asked number [] s rest = rest ≡ []
 EachShown asked number (name ∷ names) s rest =
-    (file : List ℕ) × (bytes_at s name ≡ Some file)
-    × ((m : SourceState) × (more : List ℕ) × KeepsOthers name s (Some m) × (rest ≡ marks (file_section (page_kind asked.kind) number asked.asking name file) ++ more)
+    (file : List ℕ) × (bytes_at s name.path ≡ Some file)
+    × ((m : SourceState) × (more : List ℕ) × KeepsOthers name.path s (Some m) × (rest ≡ marks (file_section (page_kind asked.kind) number asked.asking (shown_name name) file) ++ more)
     × EachShown asked (counted number 1) names m more)
 
 -- the sections of these files follow those so far
@@ -74,7 +77,7 @@ record Shown (sofar reported : PageSofar) (rest : List ℕ) : Type 0 where
   sections : marks reported.sections ≡ marks sofar.sections ++ rest
   faultless : sofar.total.faults ≡ 0
 
-each-shown : (asked : PageAsked) (sofar : PageSofar) (names : List (List ℕ)) (s : SourceState) (t : Option SourceState) (reported : PageSofar)
+each-shown : (asked : PageAsked) (sofar : PageSofar) (names : List NameSeen) (s : SourceState) (t : Option SourceState) (reported : PageSofar)
     → s.failures + length names < most_failures → TellsFiles (with_given asked.kind asked.asking) telling_given sofar names s t reported → reported.total.faults ≡ 0
     → (rest : List ℕ) × Shown sofar reported rest × EachShown asked sofar.total.files names s rest
 each-shown asked sofar [] s t reported room (unfailed, is) none = (
@@ -92,7 +95,7 @@ each-shown asked sofar (name ∷ names) s t reported room (m, f, one, more) none
     let (rest, shown, each) = each-shown asked next names m t reported left (more (omega (arith, left))) none in
     let (before, here) = none-counted sofar.total.faults (fault_count (fault-of asked.kind asked f)) shown.faultless in
     let there = given-as asked.kind asked name s m f one (some-faults (fault-of asked.kind asked f) here) in
-    let own = marks (file_section (page_kind asked.kind) sofar.total.files asked.asking name there.file) in
+    let own = marks (file_section (page_kind asked.kind) sofar.total.files asked.asking (shown_name name) there.file) in
     let section : marks next.sections ≡ marks sofar.sections ++ own =
     ap (λ (x : FileGiven). marks sofar.sections ++ marks (section_by (page_kind asked.kind) sofar.total.files asked.asking x.name x.bytes)) there.is in (
       own ++ rest,
@@ -108,12 +111,12 @@ shows-rows Auth asked number file = λ bytes claim vouched n rights reasons evid
 shows-rows Known asked number file = λ bytes claim vouched n rights reasons evidence h. host-row-listed asked.asking number file claim vouched n rights reasons evidence bytes h
 
 -- so each section is a part of the whole text
-prints-sections : (asked : PageAsked) (number : ℕ) (text before after : List ℕ) (names : List (List ℕ)) (s : SourceState) (rest : List ℕ) → EachShown asked number names s rest
+prints-sections : (asked : PageAsked) (number : ℕ) (text before after : List ℕ) (names : List NameSeen) (s : SourceState) (rest : List ℕ) → EachShown asked number names s rest
     → text ≡ before ++ (page rest ++ after) → PrintsSections asked number text names s
 prints-sections asked number text before after [] s rest h is = tt
 prints-sections asked number text before after (name ∷ names) s rest (file, there, (m, more, keeps, are, each)) is =
-    let own = page (marks (file_section (page_kind asked.kind) number asked.asking name file)) in
-    let both : page rest ≡ own ++ page more = ap page are ∙ flat_map-append mark_html (marks (file_section (page_kind asked.kind) number asked.asking name file)) more in
+    let own = page (marks (file_section (page_kind asked.kind) number asked.asking (shown_name name) file)) in
+    let both : page rest ≡ own ++ page more = ap page are ∙ flat_map-append mark_html (marks (file_section (page_kind asked.kind) number asked.asking (shown_name name) file)) more in
     let parts : text ≡ before ++ (own ++ (page more ++ after)) = is ∙ (ap (λ (x : List ℕ). before ++ (x ++ after)) both ∙ ap (λ (x : List ℕ). before ++ x) (append_assoc own (page more) after)) in
     let later : text ≡ (before ++ own) ++ (page more ++ after) = parts ∙ sym (append_assoc before own (page more ++ after)) in
     ((file, there, ((before, page more ++ after, parts), shows-rows asked.kind asked number file)), (m, keeps, prints-sections asked (counted number 1) text (before ++ own) after names m more each later))
@@ -141,7 +144,8 @@ shown-in rows names zone s t r named room read page_asked (Err fault) spelled (u
     let same = status-of r fault is in
     absurd (omega (arith, two, same, few))
 shown-in rows names zone s t r named room read page_asked (Ok q) spelled h few =
-    let are = ok-same {A = List (List ℕ)} {B = Response} names q.names (sym named ∙ review-names rows zone q spelled) in
+    let (words, needed, as_many) = review-names rows zone q spelled in
+    let are = ok-same {A = List (List ℕ)} {B = Response} names words (sym named ∙ needed) in
     let (title, is, asked) = asks-page rows zone q page_asked spelled in
     let a : PageAsked = record { kind = q.kind; title = title; failing = q.failing; rule = q.rule; asking = q.asking; names = q.names } in
     record {
@@ -149,7 +153,7 @@ shown-in rows names zone s t r named room read page_asked (Ok q) spelled h few =
       read = read;
       asked = a;
       spelled = asked;
-      sections = page-of a s t r (subst (λ (x : List (List ℕ)). s.failures + length x < most_failures) are room)
+      sections = page-of a s t r (subst (λ (n : ℕ). s.failures + n < most_failures) (ap length are ∙ sym as_many) room)
           (subst (λ (x : FormAsked). ReviewsAs x (given option.Key rows) q.kind q.failing q.rule q.asking q.names s t r) is h) few;
     }
 

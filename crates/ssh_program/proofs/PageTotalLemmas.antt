@@ -1,10 +1,12 @@
 -- The total of a page is that of the other formats, file by file.
-use Rattle.ssh_program.proofs.Imports.{◌≡◌, ◌∙◌, ℕ, Bool, true, false, List, length, Option, Some, None, Ok, Err, ap, refl, Asking, Form, TooLong, ReviewKind, Auth, Known, file_limit, fault_review, telling_review, with_file, if◌then◌else◌}
+use Rattle.ssh_program.proofs.Imports.{◌≡◌, ◌∙◌, ℕ, Bool, true, false, List, length, Option, Some, None, Result, Ok, Err, ap, refl, Asking, Form, TooLong, ReviewKind, Auth, Known, file_limit, fault_review, telling_review, with_file, if◌then◌else◌}
 use Rattle.std.specs.Prelude.{nat_lt}
 use Rattle.ssh_page.specs.declared.file.FileKind.TheVariants.{AuthorizedKeys, KnownHosts}
 use Rattle.ssh_review.specs.declared.end.FileFault.TheVariants.{Unread}
+use Rattle.ssh_files.specs.declared.files.UnreadCause.{UnreadCause}
 use Rattle.ssh_review.specs.declared.end.Total.{Total}
 use Rattle.ssh_review.specs.Counting.{no_counts}
+use Rattle.ssh_review.specs.FileNames.{NameSeen, file_head}
 use Rattle.ssh_review.specs.ShownRecords.{host_shown_whole_review, shown_whole_review}
 use Rattle.ssh_review.specs.declared.show.Show.{Show}
 use Rattle.ssh_program.specs.FileReviews.{Lines}
@@ -26,16 +28,16 @@ unfolding host_shown_whole_review
 known-alike show form asking name file t true = refl
 known-alike show form asking name file t false = refl
 
-pub read-total : (kind : ReviewKind) (show : Show) (form : Form) (asking : Asking) (page : PageSofar) (reported : Lines) (name : List ℕ) (bytes : Option (List ℕ)) → page.total ≡ reported.total
-    → (with_given kind asking page (telling_given.of_bytes name bytes)).total ≡ (with_file reported ((telling_review kind show form asking).of_bytes name bytes)).total
-read-total kind show form asking page reported name None is = ap (λ (t : Total). with_counted t no_counts (Some Unread)) is
-read-total Auth show form asking page reported name (Some file) is =
-    ap (λ (t : Total). with_counted t (given_kept AuthorizedKeys asking (given_bytes (Some file))).counts (given_kept AuthorizedKeys asking (given_bytes (Some file))).fault) is
-    ∙ auth-alike show form asking name file reported.total (nat_lt file_limit (length file))
-read-total Known show form asking page reported name (Some file) is =
-    ap (λ (t : Total). with_counted t (given_kept KnownHosts asking (given_bytes (Some file))).counts (given_kept KnownHosts asking (given_bytes (Some file))).fault) is
-    ∙ known-alike show form asking name file reported.total (nat_lt file_limit (length file))
+pub read-total : (kind : ReviewKind) (show : Show) (form : Form) (asking : Asking) (page : PageSofar) (reported : Lines) (name : NameSeen) (given : Result (List ℕ) UnreadCause) → page.total ≡ reported.total
+    → (with_given kind asking page (telling_given.of_bytes name given)).total ≡ (with_file reported ((telling_review kind show form asking).of_bytes name given)).total
+read-total kind show form asking page reported name (Err cause) is = ap (λ (t : Total). with_counted t no_counts (Some (Unread cause))) is
+read-total Auth show form asking page reported name (Ok file) is =
+    ap (λ (t : Total). with_counted t (given_kept AuthorizedKeys asking (given_bytes (Ok file))).counts (given_kept AuthorizedKeys asking (given_bytes (Ok file))).fault) is
+    ∙ auth-alike show form asking (file_head form name) file reported.total (nat_lt file_limit (length file))
+read-total Known show form asking page reported name (Ok file) is =
+    ap (λ (t : Total). with_counted t (given_kept KnownHosts asking (given_bytes (Ok file))).counts (given_kept KnownHosts asking (given_bytes (Ok file))).fault) is
+    ∙ known-alike show form asking (file_head form name) file reported.total (nat_lt file_limit (length file))
 
-pub failed-total : (kind : ReviewKind) (show : Show) (form : Form) (asking : Asking) (page : PageSofar) (reported : Lines) (name : List ℕ) → page.total ≡ reported.total
-    → (with_given kind asking page (telling_given.of_fault name)).total ≡ (with_file reported ((telling_review kind show form asking).of_fault name)).total
-failed-total kind show form asking page reported name is = ap (λ (t : Total). with_counted t no_counts (Some Unread)) is
+pub failed-total : (kind : ReviewKind) (show : Show) (form : Form) (asking : Asking) (page : PageSofar) (reported : Lines) (name : NameSeen) (cause : UnreadCause) → page.total ≡ reported.total
+    → (with_given kind asking page (telling_given.of_fault name cause)).total ≡ (with_file reported ((telling_review kind show form asking).of_fault name cause)).total
+failed-total kind show form asking page reported name cause is = ap (λ (t : Total). with_counted t no_counts (Some (Unread cause))) is

@@ -136,7 +136,7 @@ put-all tells show form asking name file text digest all begun now next old p q 
 -- ---- of a file
 
 -- the text was written that the file tells
-pub text-reported : {A K : Type 0} (tells : Telling A) (text_of : A → List ℕ) (of : A → K) (name : List ℕ) (o t : Option SourceState) (old new : Option Account) (r : Result K Stop) (reported : A)
+pub text-reported : {N A K : Type 0} (tells : Telling N A) (text_of : A → List ℕ) (of : A → K) (name : N) (o t : Option SourceState) (old new : Option Account) (r : Result K Stop) (reported : A)
     → IfTells o (λ s. TellsFile tells name s t reported) → TextPut (text_of reported) (of reported) old new r → TextWritten tells text_of of name o t old new r
 text-reported tells text_of of name o t old new (Ok k) reported file (taken, is) = (reported, file, taken, is)
 text-reported tells text_of of name o t old new (Err stop.Memory) reported file (part, inl none, taken) = (part, taken, inl none)
@@ -144,6 +144,6 @@ text-reported tells text_of of name o t old new (Err stop.Memory) reported file 
 text-reported tells text_of of name o t old new (Err stop.Write) reported file breaks = (reported, file, breaks)
 
 -- nothing was
-pub nothing-reported : {A K : Type 0} (tells : Telling A) (text_of : A → List ℕ) (of : A → K) (name : List ℕ) (o t : Option SourceState) (old new : Option Account) → TakesAll old new []
+pub nothing-reported : {N A K : Type 0} (tells : Telling N A) (text_of : A → List ℕ) (of : A → K) (name : N) (o t : Option SourceState) (old new : Option Account) → TakesAll old new []
     → TextWritten tells text_of of name o t old new (Err stop.Memory)
 nothing-reported tells text_of of name o t old new none = ([], none, inl refl)

@@ -8,6 +8,7 @@ use Rattle.ssh_review.specs.declared.show.Show.TheVariants.{All}
 use Rattle.ssh_program.specs.ReviewFails.{failing_asked}
 use Rattle.ssh_program.specs.ReviewForms.{asks_page, lines_form, lines_shown, page_form, page_of_all, title_or, without_title}
 use Rattle.ssh_program.specs.ReviewShows.{show_asked, show_by, show_of}
+use Rattle.ssh_program.specs.Namings.{names_asked}
 use Rattle.ssh_program.specs.Spelled.{PageAsked, ReviewAsked, in_lines, on_page, review_spelled}
 use Rattle.ssh_program.proofs.GrantedRunLemmas.{IsFaulty, fault-faulty, none-faulty, optional-faulty, or-faulty, step-faulty}
 use Rattle.ssh_program.proofs.SpelledBytes.{ok-same, step-any, step-gives}
@@ -100,8 +101,9 @@ spelled-form rows zone =
     step-any (IsFormed rows) (value_or default_codes codes_in option.Findings rows) _ (λ reported.
     step-gives (λ form. review_form kind rows ≡ Ok form) (IsFormed rows) (review_form kind rows) _ (λ form h. h) (λ form is.
     step-any (IsFormed rows) (failing_asked reported rows) _ (λ failing.
-    step-any (IsFormed rows) (names_needed rows) _ (λ names.
-    λ q h. subst (IsFormed rows) (ok-same {A = ReviewCall} {B = Response} _ q h) is))))))))
+    step-any (IsFormed rows) (names_needed rows) _ (λ words.
+    step-any (IsFormed rows) (names_asked rows words) _ (λ names.
+    λ q h. subst (IsFormed rows) (ok-same {A = ReviewCall} {B = Response} _ q h) is)))))))))
 
 abbrev lines-asked : ReviewCall → Show → Form → ReviewAsked
 lines-asked q show f = record { kind = q.kind; show = show; form = f; failing = q.failing; rule = q.rule; asking = q.asking; names = q.names }

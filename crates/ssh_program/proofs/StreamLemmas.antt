@@ -86,13 +86,13 @@ writes_error {E = E} P (Some s) fault made old mid new status h same reported wr
 -- ---- files in turn
 
 -- the files at the front were read, and this is what they tell, whichever files are behind them
-pub record ReadSoFar {A B : Type 0} (with : B → A → B) (tells : Telling A) (start : B) (names left : List (List ℕ)) (s : SourceState) (now : Option SourceState) (sofar : B) : Type 0 where
-  pub front : List (List ℕ)
+pub record ReadSoFar {N A B : Type 0} (with : B → A → B) (tells : Telling N A) (start : B) (names left : List N) (s : SourceState) (now : Option SourceState) (sofar : B) : Type 0 where
+  pub front : List N
   pub parts : names ≡ front ++ left
-  pub leads : (unread : List (List ℕ)) → Leads with tells start (front ++ unread) s unread now sofar
+  pub leads : (unread : List N) → Leads with tells start (front ++ unread) s unread now sofar
 
 -- at first none was read, and nothing was taken
-pub read_first : {A B : Type 0} (with : B → A → B) (tells : Telling A) (start : B) (names : List (List ℕ)) (o : Option SourceState)
+pub read_first : {N A B : Type 0} (with : B → A → B) (tells : Telling N A) (start : B) (names : List N) (o : Option SourceState)
     → IfTells o (λ s. ReadSoFar with tells start names names s o start)
 read_first with tells start names None = tt
 read_first with tells start names (Some s) = λ counts. record {
@@ -101,24 +101,24 @@ read_first with tells start names (Some s) = λ counts. record {
   leads = λ unread. leads_begin with tells start unread (Some s) counts;
 }
 
-read-more : {A B : Type 0} (with : B → A → B) (tells : Telling A) (start : B) (names : List (List ℕ)) (name : List ℕ) (left rest : List (List ℕ)) (s : SourceState)
+read-more : {N A B : Type 0} (with : B → A → B) (tells : Telling N A) (start : B) (names : List N) (name : N) (left rest : List N) (s : SourceState)
     (now next : Option SourceState) (sofar : B) (reported : A) (new : B) → s.failures < most_failures → left ≡ name ∷ rest → new ≡ with sofar reported
     → ReadSoFar with tells start names left s now sofar → IfTells now (λ m. TellsFile tells name m next reported) → ReadSoFar with tells start names rest s next new
-read-more with tells start names name left rest s now next sofar reported new counts is made w file = record {
+read-more {N = N} with tells start names name left rest s now next sofar reported new counts is made w file = record {
   front = w.front ++ name ∷ [];
-  parts = w.parts ∙ (ap (λ (l : List (List ℕ)). w.front ++ l) is ∙ sym (append_assoc w.front (name ∷ []) rest));
+  parts = w.parts ∙ (ap (λ (l : List N). w.front ++ l) is ∙ sym (append_assoc w.front (name ∷ []) rest));
   leads = λ unread.
-      subst (λ (l : List (List ℕ)). Leads with tells start l s unread next new) (sym (append_assoc w.front (name ∷ []) unread))
+      subst (λ (l : List N). Leads with tells start l s unread next new) (sym (append_assoc w.front (name ∷ []) unread))
       (leads_next with tells start (w.front ++ name ∷ unread) name (name ∷ unread) unread (Some s) now next sofar reported new refl made (λ _. w.leads (name ∷ unread)) file counts);
 }
 
-read-all : {A B : Type 0} (with : B → A → B) (tells : Telling A) (start : B) (names left : List (List ℕ)) (s : SourceState) (now : Option SourceState) (sofar : B) → s.failures < most_failures
+read-all : {N A B : Type 0} (with : B → A → B) (tells : Telling N A) (start : B) (names left : List N) (s : SourceState) (now : Option SourceState) (sofar : B) → s.failures < most_failures
     → (w : ReadSoFar with tells start names left s now sofar) → TellsFiles with tells start w.front s now sofar
-read-all with tells start names left s now sofar counts w =
-    subst (λ (l : List (List ℕ)). TellsFiles with tells start l s now sofar) (append-nil w.front)
+read-all {N = N} with tells start names left s now sofar counts w =
+    subst (λ (l : List N). TellsFiles with tells start l s now sofar) (append-nil w.front)
     (leads_end with tells start (w.front ++ []) [] (Some s) now sofar refl (λ _. w.leads []) counts)
 
-front-reported : {A B : Type 0} (with : B → A → B) (tells : Telling A) (start : B) (names left : List (List ℕ)) (s : SourceState) (now : Option SourceState) (sofar : B) → s.failures < most_failures
+front-reported : {N A B : Type 0} (with : B → A → B) (tells : Telling N A) (start : B) (names left : List N) (s : SourceState) (now : Option SourceState) (sofar : B) → s.failures < most_failures
     → ReadSoFar with tells start names left s now sofar → TellsFront with tells start names s sofar
 front-reported with tells start names left s now sofar counts w = record {
   front = w.front;
@@ -131,17 +131,17 @@ front-reported with tells start names left s now sofar counts w = record {
 -- ---- texts that were written while the files were read
 
 -- the files at the front were read, the texts of what they tell were taken, and this is kept of it
-abbrev pub WrittenSoFar : {A B K : Type 0} → (B → A → B) → Telling A → B → (B → List ℕ) → (B → K) → List (List ℕ) → List (List ℕ) → SourceState → Option SourceState → Option Account → Option Account → K → Type 0
+abbrev pub WrittenSoFar : {N A B K : Type 0} → (B → A → B) → Telling N A → B → (B → List ℕ) → (B → K) → List N → List N → SourceState → Option SourceState → Option Account → Option Account → K → Type 0
 WrittenSoFar with tells start text kept names left s now old new k = (sofar : _) × (k ≡ kept sofar) × ReadSoFar with tells start names left s now sofar × TakesAll old new (text sofar)
 
-pub written_first : {A B K : Type 0} (with : B → A → B) (tells : Telling A) (start : B) (text : B → List ℕ) (kept : B → K) (names : List (List ℕ)) (o : Option SourceState) (a : Option Account) → text start ≡ []
+pub written_first : {N A B K : Type 0} (with : B → A → B) (tells : Telling N A) (start : B) (text : B → List ℕ) (kept : B → K) (names : List N) (o : Option SourceState) (a : Option Account) → text start ≡ []
     → IfTells o (λ s. WrittenSoFar with tells start text kept names names s o a a (kept start))
 written_first with tells start text kept names None a none = tt
 written_first with tells start text kept names (Some s) a none = λ counts.
     (start, refl, read_first with tells start names (Some s) counts, subst (λ (l : List ℕ). TakesAll a a l) (sym none) (nothing_taken a))
 
 -- the next file was read, and its text was taken
-pub written_next : {A B K : Type 0} (with : B → A → B) (tells : Telling A) (start : B) (text : B → List ℕ) (kept : B → K) (names : List (List ℕ)) (name : List ℕ) (left rest : List (List ℕ)) (o now next : Option SourceState)
+pub written_next : {N A B K : Type 0} (with : B → A → B) (tells : Telling N A) (start : B) (text : B → List ℕ) (kept : B → K) (names : List N) (name : N) (left rest : List N) (o now next : Option SourceState)
     (old mid new : Option Account) (k after : K) (reported : A) (part : List ℕ) → left ≡ name ∷ rest → ((sofar : B) → k ≡ kept sofar → after ≡ kept (with sofar reported)) → ((sofar : B) → text (with sofar reported) ≡ text sofar ++ part)
     → IfTells o (λ s. WrittenSoFar with tells start text kept names left s now old mid k) → IfTells now (λ m. TellsFile tells name m next reported) → TakesAll mid new part
     → IfTells o (λ s. WrittenSoFar with tells start text kept names rest s next old new after)
@@ -155,32 +155,32 @@ written_next with tells start text kept names name left rest (Some s) now next o
     )
 
 -- all were
-pub written_last : {A B K : Type 0} (with : B → A → B) (tells : Telling A) (start : B) (text : B → List ℕ) (text_of : A → List ℕ) (kept : B → K) (names left : List (List ℕ)) (o now : Option SourceState)
+pub written_last : {N A B K : Type 0} (with : B → A → B) (tells : Telling N A) (start : B) (text : B → List ℕ) (text_of : A → List ℕ) (kept : B → K) (names left : List N) (o now : Option SourceState)
     (old new : Option Account) (k : K) → left ≡ [] → IfTells o (λ s. WrittenSoFar with tells start text kept names left s now old new k)
     → IfTells o (λ s. TextsWritten with tells start text text_of kept names s now old new (Ok k))
-written_last with tells start text text_of kept names left None now old new k none h = tt
-written_last with tells start text text_of kept names left (Some s) now old new k none h = λ counts.
+written_last {N = N} with tells start text text_of kept names left None now old new k none h = tt
+written_last {N = N} with tells start text text_of kept names left (Some s) now old new k none h = λ counts.
     let (sofar, same, read, all) = h counts in
-    let whole : names ≡ read.front = read.parts ∙ (ap (λ (l : List (List ℕ)). read.front ++ l) none ∙ append-nil read.front) in
-    (sofar, subst (λ (l : List (List ℕ)). TellsFiles with tells start l s now sofar) (sym whole) (read-all with tells start names left s now sofar counts read), all, same)
+    let whole : names ≡ read.front = read.parts ∙ (ap (λ (l : List N). read.front ++ l) none ∙ append-nil read.front) in
+    (sofar, subst (λ (l : List N). TellsFiles with tells start l s now sofar) (sym whole) (read-all with tells start names left s now sofar counts read), all, same)
 
 -- a front of the text of the next file, or nothing
-abbrev pub Within : {A : Type 0} → Telling A → (A → List ℕ) → List ℕ → Option SourceState → Option SourceState → List ℕ → Type 0
+abbrev pub Within : {N A : Type 0} → Telling N A → (A → List ℕ) → N → Option SourceState → Option SourceState → List ℕ → Type 0
 Within tells text_of name now next part = (part ≡ []) ⊎ ((reported : _) × IfTells now (λ m. TellsFile tells name m next reported) × IsCutAt part (text_of reported))
 
-front-reported-of : {A : Type 0} (tells : Telling A) (text_of : A → List ℕ) (name : List ℕ) (now next : Option SourceState) (part : List ℕ) (reported : A) → IsCutAt part (text_of reported)
+front-reported-of : {N A : Type 0} (tells : Telling N A) (text_of : A → List ℕ) (name : N) (now next : Option SourceState) (part : List ℕ) (reported : A) → IsCutAt part (text_of reported)
     → IfTells now (λ m. TellsFile tells name m next reported) → IfTells now (λ m. IsFrontOf tells text_of name m part)
 front-reported-of tells text_of name None next part reported cut file = tt
 front-reported-of tells text_of name (Some m) next part reported cut file = λ counts. (next, reported, file counts, cut)
 
-next-within : {A : Type 0} (tells : Telling A) (text_of : A → List ℕ) (name : List ℕ) (left rest : List (List ℕ)) (now next : Option SourceState) (part : List ℕ) → left ≡ name ∷ rest
+next-within : {N A : Type 0} (tells : Telling N A) (text_of : A → List ℕ) (name : N) (left rest : List N) (now next : Option SourceState) (part : List ℕ) → left ≡ name ∷ rest
     → Within tells text_of name now next part → (part ≡ []) ⊎ IsFrontOfNext tells text_of left now part
-next-within tells text_of name left rest now next part is (inl none) = inl none
-next-within tells text_of name left rest now next part is (inr (reported, file, cut)) =
-    inr (subst (λ (l : List (List ℕ)). IsFrontOfNext tells text_of l now part) (sym is) (front-reported-of tells text_of name now next part reported cut file))
+next-within {N = N} tells text_of name left rest now next part is (inl none) = inl none
+next-within {N = N} tells text_of name left rest now next part is (inr (reported, file, cut)) =
+    inr (subst (λ (l : List N). IsFrontOfNext tells text_of l now part) (sym is) (front-reported-of tells text_of name now next part reported cut file))
 
 -- memory could not be allocated for the next, or for all of its text
-pub written_until : {A B K : Type 0} (with : B → A → B) (tells : Telling A) (start : B) (text : B → List ℕ) (text_of : A → List ℕ) (kept : B → K) (names : List (List ℕ)) (name : List ℕ) (left rest : List (List ℕ)) (o now next t : Option SourceState)
+pub written_until : {N A B K : Type 0} (with : B → A → B) (tells : Telling N A) (start : B) (text : B → List ℕ) (text_of : A → List ℕ) (kept : B → K) (names : List N) (name : N) (left rest : List N) (o now next t : Option SourceState)
     (old mid new : Option Account) (k : K) (part : List ℕ) → left ≡ name ∷ rest → IfTells o (λ s. WrittenSoFar with tells start text kept names left s now old mid k) → TakesAll mid new part → Within tells text_of name now next part
     → IfTells o (λ s. TextsWritten with tells start text text_of kept names s t old new (Err stop.Memory))
 unfolding front-reported
@@ -199,7 +199,7 @@ written_until with tells start text text_of kept names name left rest (Some s) n
     )
 
 -- the next file was read, and a write failed in its text
-pub written_into : {A B K : Type 0} (with : B → A → B) (tells : Telling A) (start : B) (text : B → List ℕ) (text_of : A → List ℕ) (kept : B → K) (names : List (List ℕ)) (name : List ℕ) (left rest : List (List ℕ))
+pub written_into : {N A B K : Type 0} (with : B → A → B) (tells : Telling N A) (start : B) (text : B → List ℕ) (text_of : A → List ℕ) (kept : B → K) (names : List N) (name : N) (left rest : List N)
     (o now next t : Option SourceState) (old mid new : Option Account) (k : K) (reported : A) (part : List ℕ) → left ≡ name ∷ rest → ((sofar : B) → text (with sofar reported) ≡ text sofar ++ part)
     → IfTells o (λ s. WrittenSoFar with tells start text kept names left s now old mid k) → IfTells now (λ m. TellsFile tells name m next reported) → Breaks mid new part
     → IfTells o (λ s. TextsWritten with tells start text text_of kept names s t old new (Err stop.Write))
@@ -213,7 +213,7 @@ written_into with tells start text text_of kept names name left rest (Some s) no
     )
 
 -- what came of writing the text of the next
-pub written_stopped : {A B K L : Type 0} (with : B → A → B) (tells : Telling A) (start : B) (text : B → List ℕ) (text_of : A → List ℕ) (kept : B → K) (of : A → L) (names : List (List ℕ)) (name : List ℕ) (left rest : List (List ℕ))
+pub written_stopped : {N A B K L : Type 0} (with : B → A → B) (tells : Telling N A) (start : B) (text : B → List ℕ) (text_of : A → List ℕ) (kept : B → K) (of : A → L) (names : List N) (name : N) (left rest : List N)
     (o now next : Option SourceState) (old mid new : Option Account) (k : K) (e : Stop) → left ≡ name ∷ rest → ((sofar : B) (reported : A) → text (with sofar reported) ≡ text sofar ++ text_of reported)
     → IfTells o (λ s. WrittenSoFar with tells start text kept names left s now old mid k) → TextWritten tells text_of of name now next mid new (Err e)
     → IfTells o (λ s. TextsWritten with tells start text text_of kept names s next old new (Err e))
@@ -222,7 +222,7 @@ written_stopped with tells start text text_of kept of names name left rest o now
 written_stopped with tells start text text_of kept of names name left rest o now next old mid new k stop.Write is grown h (reported, file, breaks) =
     written_into with tells start text text_of kept names name left rest o now next next old mid new k reported (text_of reported) is (λ sofar. grown sofar reported) h file breaks
 
-pub written_reported : {A B K L : Type 0} (with : B → A → B) (tells : Telling A) (start : B) (text : B → List ℕ) (text_of : A → List ℕ) (kept : B → K) (of : A → L) (names : List (List ℕ)) (name : List ℕ) (left rest : List (List ℕ))
+pub written_reported : {N A B K L : Type 0} (with : B → A → B) (tells : Telling N A) (start : B) (text : B → List ℕ) (text_of : A → List ℕ) (kept : B → K) (of : A → L) (names : List N) (name : N) (left rest : List N)
     (o now next : Option SourceState) (old mid new : Option Account) (k after : K) (x : L) → left ≡ name ∷ rest → ((sofar : B) (reported : A) → text (with sofar reported) ≡ text sofar ++ text_of reported)
     → ((sofar : B) (reported : A) → k ≡ kept sofar → x ≡ of reported → after ≡ kept (with sofar reported))
     → IfTells o (λ s. WrittenSoFar with tells start text kept names left s now old mid k) → TextWritten tells text_of of name now next mid new (Ok x)
@@ -238,16 +238,16 @@ failed_stop K L stop.Write new h = h
 -- ---- the answer
 
 -- all that the files tell is answered, or the answer ends early
-abbrev pub TellsInTurn : {A B : Type 0} → (B → A → B) → Telling A → B → (B → List ℕ) → (A → List ℕ) → (B → Shown) → List (List ℕ) → SourceState → Option SourceState → Shown → Type 0
+abbrev pub TellsInTurn : {N A B : Type 0} → (B → A → B) → Telling N A → B → (B → List ℕ) → (A → List ℕ) → (B → Shown) → List N → SourceState → Option SourceState → Shown → Type 0
 TellsInTurn with tells start text text_of answer names s t r = ((reported : _) × TellsFiles with tells start names s t reported × (r ≡ answer reported)) ⊎ EndsEarly with tells start text text_of names s r
 
 -- the texts of files at the front are written, and nothing of the next
-front-written : {A B : Type 0} (with : B → A → B) (tells : Telling A) (start : B) (text : B → List ℕ) (text_of : A → List ℕ) (names : List (List ℕ)) (s : SourceState) (reported : B) → TellsFront with tells start names s reported
+front-written : {N A B : Type 0} (with : B → A → B) (tells : Telling N A) (start : B) (text : B → List ℕ) (text_of : A → List ℕ) (names : List N) (s : SourceState) (reported : B) → TellsFront with tells start names s reported
     → WritesFront with tells start text text_of names s (text reported)
 front-written with tells start text text_of names s reported front = record { reported = reported; files = front; part = []; next = inl refl; parts = sym (append-nil (text reported)) }
 
 -- a fault of memory behind the texts
-pub stopped_by_memory : {A B K : Type 0} (with : B → A → B) (tells : Telling A) (start : B) (text : B → List ℕ) (text_of : A → List ℕ) (kept : B → K) (answer : B → Shown) (names : List (List ℕ)) (o t : Option SourceState)
+pub stopped_by_memory : {N A B K : Type 0} (with : B → A → B) (tells : Telling N A) (start : B) (text : B → List ℕ) (text_of : A → List ℕ) (kept : B → K) (answer : B → Shown) (names : List N) (o t : Option SourceState)
     (old mid new : Option Account) (status : ℕ) → IfTells o (λ s. TextsWritten with tells start text text_of kept names s t old mid (Err stop.Memory)) → WritesResponse mid new out_of_memory status
     → IfTells o (λ s. WritesAnswer (TellsInTurn with tells start text text_of answer names s t) old new status)
 stopped_by_memory with tells start text text_of kept answer names None t old mid new status h writes = tt
@@ -256,7 +256,7 @@ stopped_by_memory with tells start text text_of kept answer names (Some s) t old
     (behind written out_of_memory, inl (inr (written, front, refl)), written_behind old mid new written out_of_memory status taken writes)
 
 -- a write that failed in the texts
-pub stopped_by_write : {A B K : Type 0} (with : B → A → B) (tells : Telling A) (start : B) (text : B → List ℕ) (text_of : A → List ℕ) (kept : B → K) (answer : B → Shown) (names : List (List ℕ)) (o t : Option SourceState)
+pub stopped_by_write : {N A B K : Type 0} (with : B → A → B) (tells : Telling N A) (start : B) (text : B → List ℕ) (text_of : A → List ℕ) (kept : B → K) (answer : B → Shown) (names : List N) (o t : Option SourceState)
     (old new : Option Account) → IfTells o (λ s. TextsWritten with tells start text text_of kept names s t old new (Err stop.Write))
     → IfTells o (λ s. WritesAnswer (TellsInTurn with tells start text text_of answer names s t) old new 2)
 stopped_by_write with tells start text text_of kept answer names None t old new h = tt
@@ -264,7 +264,7 @@ stopped_by_write with tells start text text_of kept answer names (Some s) t old 
     let (reported, front, breaks) = h counts in
     (behind (text reported) out_of_memory, inl (inr (text reported, front-written with tells start text text_of names s reported front, refl)), inr (first_broken old new (text reported) (out_of_memory).text breaks, refl))
 
-all-in-turn : {A B : Type 0} (with : B → A → B) (tells : Telling A) (start : B) (text : B → List ℕ) (text_of : A → List ℕ) (answer : B → Shown) (names : List (List ℕ)) (s : SourceState) (t : Option SourceState)
+all-in-turn : {N A B : Type 0} (with : B → A → B) (tells : Telling N A) (start : B) (text : B → List ℕ) (text_of : A → List ℕ) (answer : B → Shown) (names : List N) (s : SourceState) (t : Option SourceState)
     (old mid new : Option Account) (reported : B) (last : Shown) (status : ℕ) → answer reported ≡ behind (text reported) last → TellsFiles with tells start names s t reported → TakesAll old mid (text reported)
     → WritesAnswer (λ r. r ≡ last) mid new status → WritesAnswer (TellsInTurn with tells start text text_of answer names s t) old new status
 all-in-turn with tells start text text_of answer names s t old mid new reported last status made chain taken (r, inl is, writes) =
@@ -276,7 +276,7 @@ all-in-turn with tells start text text_of answer names s t old mid new reported 
 )
 
 -- the last line behind the texts of all files
-pub all_written : {A B K : Type 0} (with : B → A → B) (tells : Telling A) (start : B) (text : B → List ℕ) (text_of : A → List ℕ) (kept : B → K) (answer : B → Shown) (last : K → Shown) (names : List (List ℕ))
+pub all_written : {N A B K : Type 0} (with : B → A → B) (tells : Telling N A) (start : B) (text : B → List ℕ) (text_of : A → List ℕ) (kept : B → K) (answer : B → Shown) (last : K → Shown) (names : List N)
     (o t : Option SourceState) (old mid new : Option Account) (k : K) (status : ℕ) → ((reported : B) → answer reported ≡ behind (text reported) (last (kept reported)))
     → IfTells o (λ s. TextsWritten with tells start text text_of kept names s t old mid (Ok k)) → WritesAnswer (λ r. r ≡ last k) mid new status
     → IfTells o (λ s. WritesAnswer (TellsInTurn with tells start text text_of answer names s t) old new status)
@@ -286,7 +286,7 @@ all_written with tells start text text_of kept answer last names (Some s) t old 
     all-in-turn with tells start text text_of answer names s t old mid new reported (last k) status (made reported ∙ ap (λ x. behind (text reported) (last x)) (sym is)) chain taken writes
 
 -- sources that are alike have the same answers
-pub ends_same : {A B : Type 0} (with : B → A → B) (tells : Telling A) (start : B) (text : B → List ℕ) (text_of : A → List ℕ) (names : List (List ℕ)) (a b : SourceState) (r : Shown) → Alike a b
+pub ends_same : {N A B : Type 0} (with : B → A → B) (tells : Telling N A) (start : B) (text : B → List ℕ) (text_of : A → List ℕ) (names : List N) (a b : SourceState) (r : Shown) → Alike a b
     → EndsEarly with tells start text text_of names a r → EndsEarly with tells start text text_of names b r
 ends_same with tells start text text_of names a b r e (written, w, is) = (
   written,

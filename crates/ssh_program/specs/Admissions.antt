@@ -5,7 +5,7 @@ use Rattle.ssh_offers.specs.declared.claim.AuditError.TheVariants.{FileTooLong, 
 use Rattle.ssh_offers.specs.declared.claim.Signed.{Signed}
 use Rattle.ssh_trust.specs.declared.decision.Decision.{Decision}
 use Rattle.ssh_trust.specs.declared.decision.Decision.TheVariants.{Granted, Denied}
-use Rattle.ssh_files.specs.SourceState.{SourceState, bytes_at}
+use Rattle.ssh_files.specs.SourceState.{SourceState, bytes_at, bytes_of}
 use Rattle.ssh_files.specs.Loading.{KeepsOthers, NoReadFailed, ReadToEnd, within_limit}
 use Rattle.ssh_files.specs.declared.read.ReadError.{ReadError}
 use Rattle.ssh_files.specs.declared.read.ReadError.TheVariants as read
@@ -122,10 +122,11 @@ reported_over who by beside evidence name None = reported_of who name nothing_ot
 reported_over who by beside evidence name (Some file) = reported_by who by beside evidence name file
 
 -- a failed read of a file is reported as A9
-abbrev pub telling : AnswerForm → Deciding → Otherness → List Signed → Telling ReportedLines
+abbrev pub telling : AnswerForm → Deciding → Otherness → List Signed → Telling (List ℕ) ReportedLines
 telling who by beside evidence = record {
-  of_bytes = reported_over who by beside evidence;
-  of_fault = λ name. reported_of who name nothing_other (Err Read);
+  path = λ name. name;
+  of_bytes = λ name given. reported_over who by beside evidence name (bytes_of given);
+  of_fault = λ name cause. reported_of who name nothing_other (Err Read);
 }
 
 -- the fault of a file whose bytes could not be had; a refused offer comes before a file that is missing or too long

@@ -143,9 +143,9 @@ key_places_asked = (refl, refl, refl, refl)
 -- `review` needs at least one file; behind `--` each word is a name; a list of names is no option of these words
 abbrev pub ReviewsAsked : Type 0
 ReviewsAsked = (asked (codes "review" ∷ codes "--kind" ∷ codes "auth" ∷ codes "a" ∷ codes "--now" ∷ codes "n" ∷ codes "--form" ∷ codes "json" ∷ [])
-    ≡ Some (Review, Some (codes "auth") ∷ Some (codes "n") ∷ None ∷ None ∷ None ∷ None ∷ None ∷ None ∷ Some (codes "json") ∷ None ∷ []))
+    ≡ Some (Review, Some (codes "auth") ∷ Some (codes "n") ∷ None ∷ None ∷ None ∷ None ∷ None ∷ None ∷ Some (codes "json") ∷ None ∷ None ∷ []))
     × (asked (codes "review" ∷ codes "--kind" ∷ codes "known" ∷ codes "--now" ∷ codes "n" ∷ codes "--key" ∷ codes "k.pub" ∷ codes "a" ∷ [])
-    ≡ Some (Review, Some (codes "known") ∷ Some (codes "n") ∷ Some (codes "k.pub") ∷ None ∷ None ∷ None ∷ None ∷ None ∷ None ∷ None ∷ []))
+    ≡ Some (Review, Some (codes "known") ∷ Some (codes "n") ∷ Some (codes "k.pub") ∷ None ∷ None ∷ None ∷ None ∷ None ∷ None ∷ None ∷ None ∷ []))
     × (names_asked (codes "review" ∷ codes "--kind" ∷ codes "auth" ∷ codes "--now" ∷ codes "n" ∷ codes "a" ∷ codes "--findings" ∷ codes "F1" ∷ codes "b" ∷ [])
     ≡ Some (codes "a" ∷ codes "b" ∷ []))
     × (request_of (codes "review" ∷ codes "--kind" ∷ codes "auth" ∷ codes "--now" ∷ codes "n" ∷ []) ≡ None)
@@ -180,7 +180,7 @@ UsageReported = (usage_line Show ≡ codes "ssh_audit show --kind KIND --file FI
     × (usage_line Host
     ≡ codes "ssh_audit host --file FILE (--offer BASE64 | --offer-file FILE) (--signature HEX | --signature-file FILE) --hash HEX --host NAME --port PORT --now SECONDS [--vouch FILE] [--empty-principals WHOM] [--rsa-minimum BITS]\n")
     × (usage_line Review
-    ≡ codes "ssh_audit review --kind KIND --now SECONDS [--key FILE] [--zone RULE] [--rsa-minimum BITS] [--findings CODES] [--fail-on CODES] [--show WHAT] [--form FORM] [--title TEXT] [--files-from FILE] NAME..\n")
+    ≡ codes "ssh_audit review --kind KIND --now SECONDS [--key FILE] [--zone RULE] [--rsa-minimum BITS] [--findings CODES] [--fail-on CODES] [--show WHAT] [--form FORM] [--title TEXT] [--labels NAMES] [--files-from FILE] NAME..\n")
     × (usage_line Explain ≡ codes "ssh_audit explain [CODE..]\n")
     × (asks_usage (codes "G8" ∷ codes "usage" ∷ []) ≡ true)
     × (asks_usage (codes "usages" ∷ codes "USAGE" ∷ []) ≡ false)

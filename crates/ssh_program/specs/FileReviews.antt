@@ -4,12 +4,14 @@ use Rattle.ssh_findings.specs.Asking.{Asking}
 use Rattle.ssh_findings.specs.declared.code.Code.{Code}
 use Rattle.ssh_files.specs.FilesInTurn.{Telling, TellsFile, TellsFiles}
 use Rattle.ssh_files.specs.SourceState.{IfTells, SourceState}
+use Rattle.ssh_files.specs.declared.files.UnreadCause.{UnreadCause}
 use Rattle.ssh_files.specs.declared.read.ReadError.{ReadError}
 use Rattle.ssh_files.specs.declared.read.ReadError.TheVariants as read
 use Rattle.ssh_print.specs.Responses.{Response, out_of_memory}
 use Rattle.ssh_review.specs.declared.end.FileFault.TheVariants.{TooLong, Unread}
 use Rattle.ssh_review.specs.declared.end.Total.{Total}
 use Rattle.ssh_review.specs.declared.end.Form.{Form}
+use Rattle.ssh_review.specs.FileNames.{NameSeen, file_head}
 use Rattle.ssh_review.specs.Forms.{total_line}
 use Rattle.ssh_review.specs.Making.{AreWholeLines}
 use Rattle.ssh_review.specs.Reviews.{Review, fault_review}
@@ -41,14 +43,18 @@ abbrev pub review_of : ReviewKind → Show → Form → Asking → List ℕ → 
 review_of Auth show form asking name file = shown_auth_review show form asking name file
 review_of Known show form asking name file = shown_known_review show form asking name file
 
--- the same of the file of this name; a missing file has the fault A9
-abbrev pub review_over : ReviewKind → Show → Form → Asking → List ℕ → Option (List ℕ) → Review
-review_over kind show form asking name None = fault_review form name Unread
-review_over kind show form asking name (Some file) = review_of kind show form asking name file
+-- the same of what is given of a file, each record of which begins with this head; one that is missing has the fault A9, and why
+abbrev pub review_over : ReviewKind → Show → Form → Asking → List ℕ → Result (List ℕ) UnreadCause → Review
+review_over kind show form asking name (Err cause) = fault_review form name (Unread cause)
+review_over kind show form asking name (Ok file) = review_of kind show form asking name file
 
 -- a file of which a read fails has the fault A9 too
-abbrev pub telling_review : ReviewKind → Show → Form → Asking → Telling Review
-telling_review kind show form asking = record { of_bytes = review_over kind show form asking; of_fault = λ name. fault_review form name Unread }
+abbrev pub telling_review : ReviewKind → Show → Form → Asking → Telling NameSeen Review
+telling_review kind show form asking = record {
+  path = λ name. name.path;
+  of_bytes = λ name given. review_over kind show form asking (file_head form name) given;
+  of_fault = λ name cause. fault_review form (file_head form name) (Unread cause);
+}
 
 -- the format by its name in `--kind`
 abbrev pub kind_name : ReviewKind → List ℕ
@@ -58,9 +64,9 @@ kind_name Known = codes "known"
 -- ---- files whose texts are written one after the other
 
 -- the files at the front of these were read, each after those before it, and tell this together
-pub record TellsFront {A B : Type 0} (with : B → A → B) (tells : Telling A) (start : B) (names : List (List ℕ)) (s : SourceState) (reported : B) : Type 0 where
-  pub front : List (List ℕ)
-  pub unread : List (List ℕ)
+pub record TellsFront {N A B : Type 0} (with : B → A → B) (tells : Telling N A) (start : B) (names : List N) (s : SourceState) (reported : B) : Type 0 where
+  pub front : List N
+  pub unread : List N
   pub parts : names ≡ front ++ unread
   pub left : Option SourceState
   pub chain : TellsFiles with tells start front s left reported
@@ -73,17 +79,17 @@ pub record IsCutAt (part text : List ℕ) : Type 0 where
   pub lines : AreWholeLines part
 
 -- lines at the front of the text of the file of this name, as it tells it, and not the whole text
-abbrev pub IsFrontOf : {A : Type 0} → Telling A → (A → List ℕ) → List ℕ → SourceState → List ℕ → Type 0
+abbrev pub IsFrontOf : {N A : Type 0} → Telling N A → (A → List ℕ) → N → SourceState → List ℕ → Type 0
 IsFrontOf tells text name s part = (t : Option SourceState) × (reported : _) × TellsFile tells name s t reported × IsCutAt part (text reported)
 
 -- the same of the first of these files, which is read next
-abbrev pub IsFrontOfNext : {A : Type 0} → Telling A → (A → List ℕ) → List (List ℕ) → Option SourceState → List ℕ → Type 0
+abbrev pub IsFrontOfNext : {N A : Type 0} → Telling N A → (A → List ℕ) → List N → Option SourceState → List ℕ → Type 0
 IsFrontOfNext tells text [] o part = ⊥
 IsFrontOfNext tells text (name ∷ names) o part = IfTells o (λ s. IsFrontOf tells text name s part)
 
 -- What is written where memory could not be allocated: the texts of some files at the front, whole, and behind them nothing or
 -- lines at the front of the text of the next file.
-pub record WritesFront {A B : Type 0} (with : B → A → B) (tells : Telling A) (start : B) (text : B → List ℕ) (text_of : A → List ℕ) (names : List (List ℕ)) (s : SourceState) (written : List ℕ) : Type 0 where
+pub record WritesFront {N A B : Type 0} (with : B → A → B) (tells : Telling N A) (start : B) (text : B → List ℕ) (text_of : A → List ℕ) (names : List N) (s : SourceState) (written : List ℕ) : Type 0 where
   pub reported : B
   pub files : TellsFront with tells start names s reported
   pub part : List ℕ
@@ -92,12 +98,12 @@ pub record WritesFront {A B : Type 0} (with : B → A → B) (tells : Telling A)
 
 -- The answer goes no further than that, and the fault of want of memory behind it. It is printed so where memory could not be
 -- allocated; where a write failed, a proper prefix of it was printed.
-abbrev pub EndsEarly : {A B : Type 0} → (B → A → B) → Telling A → B → (B → List ℕ) → (A → List ℕ) → List (List ℕ) → SourceState → Response → Type 0
+abbrev pub EndsEarly : {N A B : Type 0} → (B → A → B) → Telling N A → B → (B → List ℕ) → (A → List ℕ) → List N → SourceState → Response → Type 0
 EndsEarly with tells start text text_of names s r = (written : List ℕ) × WritesFront with tells start text text_of names s written × (r ≡ behind written out_of_memory)
 
 -- What came of writing the text of each file when it was read: all were taken, and this is what is kept of what the files tell;
 -- or memory could not be allocated, and what goes before was taken; or a write failed in the texts of files at the front.
-abbrev pub TextsWritten : {A B K : Type 0} → (B → A → B) → Telling A → B → (B → List ℕ) → (A → List ℕ) → (B → K) → List (List ℕ) → SourceState → Option SourceState → Option Account → Option Account → Result K Stop → Type 0
+abbrev pub TextsWritten : {N A B K : Type 0} → (B → A → B) → Telling N A → B → (B → List ℕ) → (A → List ℕ) → (B → K) → List N → SourceState → Option SourceState → Option Account → Option Account → Result K Stop → Type 0
 TextsWritten with tells start text text_of kept names s t old new (Ok k) = (reported : _) × TellsFiles with tells start names s t reported × TakesAll old new (text reported) × (k ≡ kept reported)
 TextsWritten with tells start text text_of kept names s t old new (Err Memory) = (written : List ℕ) × WritesFront with tells start text text_of names s written × TakesAll old new written
 TextsWritten with tells start text text_of kept names s t old new (Err Write) = (reported : _) × TellsFront with tells start names s reported × Breaks old new (text reported)
@@ -113,7 +119,7 @@ TextPut text kept old new (Err Write) = Breaks old new text
 
 -- What came of writing the text of the file of this name: the same, of what the file tells; nothing of it is taken where memory
 -- could not be allocated to read the file.
-abbrev pub TextWritten : {A K : Type 0} → Telling A → (A → List ℕ) → (A → K) → List ℕ → Option SourceState → Option SourceState → Option Account → Option Account → Result K Stop → Type 0
+abbrev pub TextWritten : {N A K : Type 0} → Telling N A → (A → List ℕ) → (A → K) → N → Option SourceState → Option SourceState → Option Account → Option Account → Result K Stop → Type 0
 TextWritten tells text kept name o t old new (Ok k) = (reported : _) × IfTells o (λ s. TellsFile tells name s t reported) × TakesAll old new (text reported) × (k ≡ kept reported)
 TextWritten tells text kept name o t old new (Err Memory) = (part : List ℕ) × TakesAll old new part
     × ((part ≡ []) ⊎ ((reported : _) × IfTells o (λ s. TellsFile tells name s t reported) × IsCutAt part (text reported)))
@@ -124,11 +130,11 @@ abbrev pub review_kept : Review → FileReported
 review_kept r = record { counts = r.counts; stands = false; fault = r.fault }
 
 -- what came of writing the end of a file whose bytes could not be had
-abbrev pub UnreadPut : Form → List ℕ → ReadError → Option Account → Option Account → Result FileReported Stop → Type 0
-UnreadPut form name read.Memory old new r = (r ≡ Err Memory) × (new ≡ old)
-UnreadPut form name read.TooLong old new r = TextPut (fault_review form name TooLong).text (review_kept (fault_review form name TooLong)) old new r
-UnreadPut form name read.Missing old new r = TextPut (fault_review form name Unread).text (review_kept (fault_review form name Unread)) old new r
-UnreadPut form name read.Failed old new r = TextPut (fault_review form name Unread).text (review_kept (fault_review form name Unread)) old new r
+abbrev pub UnreadPut : Form → List ℕ → ReadError → UnreadCause → Option Account → Option Account → Result FileReported Stop → Type 0
+UnreadPut form name read.Memory cause old new r = (r ≡ Err Memory) × (new ≡ old)
+UnreadPut form name read.TooLong cause old new r = TextPut (fault_review form name TooLong).text (review_kept (fault_review form name TooLong)) old new r
+UnreadPut form name read.Missing cause old new r = TextPut (fault_review form name (Unread cause)).text (review_kept (fault_review form name (Unread cause))) old new r
+UnreadPut form name read.Failed cause old new r = TextPut (fault_review form name (Unread cause)).text (review_kept (fault_review form name (Unread cause))) old new r
 
 -- no write has failed, but where one did that stopped the texts
 abbrev pub FailedIfStopped : {K : Type 0} → Result K Stop → Option Account → Type 0
@@ -146,7 +152,7 @@ review_response kind failing form rule asking reported = record {
 }
 
 -- the total is last: an answer without it went no further
-abbrev pub ReviewsFiles : ReviewKind → Show → List Code → Form → List ℕ → Asking → List (List ℕ) → SourceState → Option SourceState → Response → Type 0
+abbrev pub ReviewsFiles : ReviewKind → Show → List Code → Form → List ℕ → Asking → List NameSeen → SourceState → Option SourceState → Response → Type 0
 ReviewsFiles kind show failing form rule asking names s t r =
     ((reported : Lines) × TellsFiles with_file (telling_review kind show form asking) no_lines names s t reported × (r ≡ review_response kind failing form rule asking reported))
     ⊎ EndsEarly with_file (telling_review kind show form asking) no_lines (λ reported. reported.text) (λ r. r.text) names s r

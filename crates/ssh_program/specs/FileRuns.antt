@@ -36,6 +36,7 @@ use Rattle.ssh_program.specs.Rewritings.{rewrite_kind}
 use Rattle.ssh_program.specs.ReviewShows.{show_asked}
 use Rattle.ssh_program.specs.ReviewZones.{review_rule}
 use Rattle.ssh_program.specs.ReviewForms.{asks_page}
+use Rattle.ssh_review.specs.FileNames.{NameSeen, file_head}
 use Rattle.ssh_program.specs.Spelled.{ReviewAsked, in_lines, review_spelled}
 use Rattle.ssh_program.specs.Spelling.{given, needed, value}
 
@@ -125,25 +126,25 @@ IsPartOf part text = (before : List ℕ) × (after : List ℕ) × (text ≡ befo
 
 -- wherever the file grants a login, at whatever query, its review lists the line
 abbrev pub ListsLogins : ReviewAsked → List ℕ → List ℕ → Type 0
-ListsLogins asked name file = AreBytes file → (claim : LoginClaim) (vouched : List Signed) (n : ℕ) (rights : Option Rights) (reasons : List (ℕ × Reason)) (evidence : List Signed)
-    → login_decision file claim vouched ≡ Granted n rights reasons evidence → IsListed asked.form asked.asking name file claim n rights
+ListsLogins asked head file = AreBytes file → (claim : LoginClaim) (vouched : List Signed) (n : ℕ) (rights : Option Rights) (reasons : List (ℕ × Reason)) (evidence : List Signed)
+    → login_decision file claim vouched ≡ Granted n rights reasons evidence → IsListed asked.form asked.asking head file claim n rights
 
 -- the same of a host's key
 abbrev pub ListsHosts : ReviewAsked → List ℕ → List ℕ → Type 0
-ListsHosts asked name file = AreBytes file → (claim : HostClaim) (vouched : List Signed) (n : ℕ) (rights : Option Rights) (reasons : List (ℕ × Reason)) (evidence : List Signed)
-    → host_decision file claim vouched ≡ Granted n rights reasons evidence → IsHostListed asked.form asked.asking name file n
+ListsHosts asked head file = AreBytes file → (claim : HostClaim) (vouched : List Signed) (n : ℕ) (rights : Option Rights) (reasons : List (ℕ × Reason)) (evidence : List Signed)
+    → host_decision file claim vouched ≡ Granted n rights reasons evidence → IsHostListed asked.form asked.asking head file n
 
 -- the review of a file of this format is a part of what was printed, and lists whoever the file lets in
 abbrev pub PrintsReview : ReviewKind → ReviewAsked → List ℕ → List ℕ → List ℕ → Type 0
-PrintsReview Auth asked name text file = IsPartOf (whole_review asked.form asked.asking name file).text text × ListsLogins asked name file
-PrintsReview Known asked name text file = IsPartOf (host_whole_review asked.form asked.asking name file).text text × ListsHosts asked name file
+PrintsReview Auth asked head text file = IsPartOf (whole_review asked.form asked.asking head file).text text × ListsLogins asked head file
+PrintsReview Known asked head text file = IsPartOf (host_whole_review asked.form asked.asking head file).text text × ListsHosts asked head file
 
 -- each of the files is there, one read after the other, and its review was printed
-abbrev pub PrintsReviews : ReviewAsked → List ℕ → List (List ℕ) → SourceState → Type 0
+abbrev pub PrintsReviews : ReviewAsked → List ℕ → List NameSeen → SourceState → Type 0
 PrintsReviews asked text [] s = Unit {0}
 PrintsReviews asked text (name ∷ names) s =
-    ((file : List ℕ) × (bytes_at s name ≡ Some file) × PrintsReview asked.kind asked name text file)
-    × ((m : SourceState) × KeepsOthers name s (Some m) × PrintsReviews asked text names m)
+    ((file : List ℕ) × (bytes_at s name.path ≡ Some file) × PrintsReview asked.kind asked (file_head asked.form name) text file)
+    × ((m : SourceState) × KeepsOthers name.path s (Some m) × PrintsReviews asked text names m)
 
 -- status 0 or 1: whoever is let in by one of the named files is so by a line that was printed
 pub record FilesReviewed (rows : List Row) (s : SourceState) (r : Response) : Type 0 where

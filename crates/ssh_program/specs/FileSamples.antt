@@ -2,6 +2,7 @@
 use Rattle.std.specs.Prelude.{◌≡◌, ◌++◌, ℕ, List, [], ◌∷◌, codes, Option, Some, None, Ok, Err, refl, if◌then◌else◌}
 use Rattle.std.specs.Fmt.{digits}
 use Rattle.std.specs.Str.{bytes_eq}
+use Rattle.ssh_files.specs.declared.files.UnreadCause.TheVariants.{NotFound}
 use Rattle.ssh_files.specs.SourceState.{SourceState, bytes_at, dash, nothing}
 use Rattle.ssh_files.specs.VouchFile.{three_fields, vouched_of}
 use Rattle.ssh_offers.specs.declared.claim.AuditError.TheVariants.{Address, WrongAlgorithm}
@@ -21,7 +22,7 @@ use Rattle.ssh_program.specs.VouchLines.{vouch_file}
 -- one file of this name with these bytes, and this standard input
 abbrev source : List ℕ → List ℕ → List ℕ → SourceState
 source name bytes input = record {
-  named = λ asked. if bytes_eq asked name then Some bytes else None;
+  named = λ asked. if bytes_eq asked name then Ok bytes else Err NotFound;
   input = input;
   chosen = nothing;
   choices = 0;

@@ -13,6 +13,8 @@ use Rattle.ssh_program.specs.declared.subcommand.Subcommand.{Subcommand}
 use Rattle.ssh_program.specs.declared.subcommand.Subcommand.TheVariants.{Review}
 use Rattle.ssh_program.specs.declared.word.Place.{Place}
 use Rattle.ssh_program.specs.declared.word.Place.TheVariants.{Open, AfterOption, Behind}
+use Rattle.ssh_program.specs.declared.naming.Naming.{Naming}
+use Rattle.ssh_program.specs.declared.naming.Naming.TheVariants.{Labelled, Path}
 use Rattle.ssh_program.specs.Guidance.{asks_help}
 use Rattle.ssh_program.specs.HostPorts.{cut}
 use Rattle.ssh_program.specs.NameLists.{list_names}
@@ -119,10 +121,14 @@ is_dash (Some name) = bytes_eq name dash
 abbrev pub reads_twice : List Word → Bool
 reads_twice words = is_dash (list_in words) && list_any reads_input words
 
+-- what the names of the list are: with labels where the option for them is given
+abbrev pub naming_in : List Word → Naming
+naming_in words = if is_given option.Labels words then Labelled else Path
+
 -- the words of a command, with the names of a list of these bytes
 abbrev pub asked_by : Text → List Word → Text → Result (List Text) ListError
 asked_by command words bytes = if reads_twice words then Err Input else do
-  names ← list_names bytes
+  names ← list_names (naming_in words) bytes
   Ok (command ∷ listed_words words names)
 
 -- The words of the program that are asked in place of these, by the bytes of the list that they name: those that remain

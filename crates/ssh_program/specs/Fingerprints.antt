@@ -9,7 +9,7 @@ use Rattle.ssh_offers.specs.declared.claim.AuditError.TheVariants.{Address, File
 use Rattle.ssh_offers.specs.declared.claim.Signed.{Signed}
 use Rattle.ssh_trust.specs.declared.decision.Cause.TheVariants.{NoLine}
 use Rattle.ssh_trust.specs.declared.decision.Decision.TheVariants.{Denied}
-use Rattle.ssh_files.specs.SourceState.{SourceState}
+use Rattle.ssh_files.specs.SourceState.{SourceState, bytes_of}
 use Rattle.ssh_files.specs.Loading.{NoReadFailed}
 use Rattle.ssh_files.specs.FilesInTurn.{Telling, TellsFiles}
 use Rattle.ssh_files.specs.declared.read.ReadError.{ReadError}
@@ -64,10 +64,11 @@ fingerprint_reported client digest name (Some file) =
     if nat_lt file_limit (length file) then reported_fault client.form name FileTooLong
     else reported_found client name file (option_map offered_key (found_key digest file))
 
-abbrev pub fingerprint_telling : ClientOptions → List ℕ → Telling ReportedLines
+abbrev pub fingerprint_telling : ClientOptions → List ℕ → Telling (List ℕ) ReportedLines
 fingerprint_telling client digest = record {
-  of_bytes = fingerprint_reported client digest;
-  of_fault = λ name. reported_fault client.form name Read;
+  path = λ name. name;
+  of_bytes = λ name given. fingerprint_reported client digest name (bytes_of given);
+  of_fault = λ name cause. reported_fault client.form name Read;
 }
 
 -- the answer of a file whose bytes could not be had, where memory could be allocated

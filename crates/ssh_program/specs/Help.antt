@@ -58,6 +58,7 @@ value_word option.FailOn = codes "CODES"
 value_word option.Show = codes "WHAT"
 value_word option.Form = codes "FORM"
 value_word option.Title = codes "TEXT"
+value_word option.Labels = codes "NAMES"
 value_word option.FilesFrom = codes "FILE"
 
 -- what `--kind` gives to a command
@@ -131,6 +132,7 @@ option_sentence c option.FailOn = codes "the findings that make the status 1: al
 option_sentence c option.Show = codes "what is listed: all (so without it), found for lines with a finding, or totals"
 option_sentence c option.Form = form_sentence c
 option_sentence c option.Title = codes "the heading of the page, with --form html alone"
+option_sentence c option.Labels = codes "host,account: each name has both before its path, and a tab behind each"
 option_sentence c option.FilesFrom = codes "a file of more names, each ended by NUL or by a line end; - is standard input"
 
 -- what the value of an option has to be
@@ -164,6 +166,7 @@ wanted_value option.FailOn = codes "all, none, or codes from F1 to F22 joined by
 wanted_value option.Show = codes "all, found or totals"
 wanted_value option.Form = codes "text or json, and of review also html"
 wanted_value option.Title = codes "a text"
+wanted_value option.Labels = codes "host,account, and names that have both, each with a tab behind it"
 wanted_value option.FilesFrom = codes "a file of names, each ended by NUL or by a line end"
 
 -- what the operands of a command are

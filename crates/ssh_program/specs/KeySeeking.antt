@@ -3,6 +3,7 @@ use Rattle.std.specs.Prelude.{◌≡◌, ◌⊎◌, ◌++◌, ◌||◌, ℕ, nat
 use Rattle.ssh_keys.specs.Fingerprint.{digest_text_of}
 use Rattle.ssh_findings.specs.Asking.{Asking}
 use Rattle.ssh_findings.specs.declared.code.Code.{Code}
+use Rattle.ssh_files.specs.declared.files.UnreadCause.{UnreadCause}
 use Rattle.ssh_files.specs.FilesInTurn.{Telling, TellsFiles}
 use Rattle.ssh_files.specs.Loading.{KeepsOthers, NoReadFailed, ReadToEnd, within_limit}
 use Rattle.ssh_files.specs.SourceState.{SourceState, bytes_at}
@@ -14,6 +15,7 @@ use Rattle.ssh_review.specs.declared.end.FileFault.TheVariants.{Unread}
 use Rattle.ssh_review.specs.declared.end.Form.{Form}
 use Rattle.ssh_review.specs.declared.end.Total.{Total}
 use Rattle.ssh_review.specs.declared.show.Show.{Show}
+use Rattle.ssh_review.specs.FileNames.{NameSeen, file_head}
 use Rattle.ssh_review.specs.Forms.{total_line}
 use Rattle.ssh_review.specs.KeyReviews.{KeyReview, auth_key_review, key_fault_review, known_key_review}
 use Rattle.ssh_program.specs.declared.args.ArgName.TheVariants as option
@@ -54,16 +56,17 @@ abbrev pub key_review_of : List ℕ → ReviewKind → Form → Asking → List 
 key_review_of fingerprint Auth form asking name file = auth_key_review fingerprint form asking name file
 key_review_of fingerprint Known form asking name file = known_key_review fingerprint form asking name file
 
--- the same of the file of this name; a missing file has the fault A9
-abbrev pub key_review_over : List ℕ → ReviewKind → Form → Asking → List ℕ → Option (List ℕ) → KeyReview
-key_review_over fingerprint kind form asking name None = key_fault_review form name Unread
-key_review_over fingerprint kind form asking name (Some file) = key_review_of fingerprint kind form asking name file
+-- the same of what is given of the file of this name; one that is missing has the fault A9, and why
+abbrev pub key_review_over : List ℕ → ReviewKind → Form → Asking → List ℕ → Result (List ℕ) UnreadCause → KeyReview
+key_review_over fingerprint kind form asking name (Err cause) = key_fault_review form name (Unread cause)
+key_review_over fingerprint kind form asking name (Ok file) = key_review_of fingerprint kind form asking name file
 
 -- a file of which a read fails has the fault A9 too
-abbrev pub telling_key_review : List ℕ → ReviewKind → Form → Asking → Telling KeyReview
+abbrev pub telling_key_review : List ℕ → ReviewKind → Form → Asking → Telling NameSeen KeyReview
 telling_key_review fingerprint kind form asking = record {
-  of_bytes = key_review_over fingerprint kind form asking;
-  of_fault = λ name. key_fault_review form name Unread;
+  path = λ name. name.path;
+  of_bytes = λ name given. key_review_over fingerprint kind form asking (file_head form name) given;
+  of_fault = λ name cause. key_fault_review form (file_head form name) (Unread cause);
 }
 
 -- 2 if a file could not be reviewed, else 1 if the key stands in one of them
@@ -77,7 +80,7 @@ key_review_response kind form rule asking reported = record {
   text = reported.lines.text ++ total_line form (kind_name kind) rule asking reported.lines.total;
 }
 
-abbrev pub SeeksKey : ReviewKind → Form → List ℕ → Asking → List (List ℕ) → List ℕ → SourceState → Option SourceState → Response → Type 0
+abbrev pub SeeksKey : ReviewKind → Form → List ℕ → Asking → List NameSeen → List ℕ → SourceState → Option SourceState → Response → Type 0
 SeeksKey kind form rule asking names fingerprint s t r =
     ((reported : KeyLines) × TellsFiles with_key_file (telling_key_review fingerprint kind form asking) no_key_lines names s t reported × (r ≡ key_review_response kind form rule asking reported))
     ⊎ EndsEarly with_key_file (telling_key_review fingerprint kind form asking) no_key_lines (λ reported. reported.lines.text) (λ r. r.file.text) names s r
@@ -98,17 +101,17 @@ fingerprint_or_fault key None = Err (no_file_response key)
 fingerprint_or_fault key (Some file) = or_key_fault (shown_offer_in file)
 
 -- the key's file is read first: its read failed, or the files are reviewed for its key
-abbrev pub SeeksKeyOfFile : ReviewKind → Form → List ℕ → Asking → List (List ℕ) → List ℕ → SourceState → Option SourceState → Response → Type 0
+abbrev pub SeeksKeyOfFile : ReviewKind → Form → List ℕ → Asking → List NameSeen → List ℕ → SourceState → Option SourceState → Response → Type 0
 SeeksKeyOfFile kind form rule asking names key s t r = IsFileFault key s t r
     ⊎ ((m : SourceState) × KeepsOthers key s (Some m) × NoReadFailed s (Some m) × ReadToEnd key s (Some m)
     × RespondsTo (SeeksKey kind form rule asking names) (fingerprint_or_fault key (within_limit (bytes_at s key))) m t r)
 
 -- by the value of `--key`, which is a fingerprint or not
-abbrev pub SeeksBy : Bool → ReviewKind → Form → List ℕ → Asking → List (List ℕ) → List ℕ → SourceState → Option SourceState → Response → Type 0
+abbrev pub SeeksBy : Bool → ReviewKind → Form → List ℕ → Asking → List NameSeen → List ℕ → SourceState → Option SourceState → Response → Type 0
 SeeksBy true kind form rule asking names key = RespondsTo (SeeksKey kind form rule asking names) (spelled_fingerprint key)
 SeeksBy false kind form rule asking names key = SeeksKeyOfFile kind form rule asking names key
 
 -- the review of all keys, of which this is shown, or that for the key of this value
-abbrev pub ReviewsFor : Option (List ℕ) → ReviewKind → Show → List Code → Form → List ℕ → Asking → List (List ℕ) → SourceState → Option SourceState → Response → Type 0
+abbrev pub ReviewsFor : Option (List ℕ) → ReviewKind → Show → List Code → Form → List ℕ → Asking → List NameSeen → SourceState → Option SourceState → Response → Type 0
 ReviewsFor None kind show failing form rule asking names = ReviewsFiles kind show failing form rule asking names
 ReviewsFor (Some key) kind show failing form rule asking names = SeeksBy (is_fingerprint key) kind form rule asking names key

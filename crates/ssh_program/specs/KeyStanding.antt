@@ -1,5 +1,5 @@
 -- What a run of `review` with `--key` means that ends with status 0 or 1 (this project's rule).
-use Rattle.std.specs.Prelude.{◌≡◌, ℕ, Bool, true, false, List, [], ◌∷◌, Option, Some, Ok}
+use Rattle.std.specs.Prelude.{◌≡◌, ℕ, Bool, true, false, List, [], ◌∷◌, Option, Some, Ok, map}
 use Rattle.clap.specs.Words.{Row}
 use Rattle.jiff.specs.Types.{TimeZone}
 use Rattle.ssh_findings.specs.Asking.{Asking}
@@ -18,6 +18,7 @@ use Rattle.ssh_program.specs.FingerprintValues.{is_fingerprint}
 use Rattle.ssh_program.specs.KeyRuns.{EachFile, SomeFile}
 use Rattle.ssh_program.specs.KeySeeking.{fingerprint_or_fault, spelled_fingerprint}
 use Rattle.ssh_program.specs.ReviewZones.{review_rule}
+use Rattle.ssh_review.specs.FileNames.{NameSeen, file_head}
 use Rattle.ssh_program.specs.Spelled.{ReviewAsked, in_lines, review_spelled}
 use Rattle.ssh_program.specs.Spelling.{given}
 
@@ -46,11 +47,11 @@ whole_for_key Auth fingerprint form asking name file = whole_key_review fingerpr
 whole_for_key Known fingerprint form asking name file = host_whole_key_review fingerprint form asking name file
 
 -- each of the files is there, one read after the other, and its review for the key is a part of what was printed
-abbrev pub PrintsKeyReviews : ReviewAsked → List ℕ → List ℕ → List (List ℕ) → SourceState → Type 0
+abbrev pub PrintsKeyReviews : ReviewAsked → List ℕ → List ℕ → List NameSeen → SourceState → Type 0
 PrintsKeyReviews asked fingerprint text [] s = Unit {0}
 PrintsKeyReviews asked fingerprint text (name ∷ names) s =
-    ((file : List ℕ) × (bytes_at s name ≡ Some file) × IsPartOf (whole_for_key asked.kind fingerprint asked.form asked.asking name file).file.text text)
-    × ((m : SourceState) × KeepsOthers name s (Some m) × PrintsKeyReviews asked fingerprint text names m)
+    ((file : List ℕ) × (bytes_at s name.path ≡ Some file) × IsPartOf (whole_for_key asked.kind fingerprint asked.form asked.asking (file_head asked.form name) file).file.text text)
+    × ((m : SourceState) × KeepsOthers name.path s (Some m) × PrintsKeyReviews asked fingerprint text names m)
 
 -- the options ask where the key with this fingerprint stands, and each file's records of it were printed
 pub record KeySought (rows : List Row) (key : List ℕ) (s : SourceState) (r : Response) : Type 0 where
@@ -66,9 +67,9 @@ pub record KeySought (rows : List Row) (key : List ℕ) (s : SourceState) (r : R
 -- status 0: each of the named files is there, and no line of it holds the key
 pub record KeyNowhere (rows : List Row) (key : List ℕ) (s : SourceState) (r : Response) : Type 0 where
   pub sought : KeySought rows key s r
-  pub nowhere : EachFile (StandsNowhereIn sought.asked.kind sought.fingerprint) sought.asked.names sought.left
+  pub nowhere : EachFile (StandsNowhereIn sought.asked.kind sought.fingerprint) (map (λ name. name.path) sought.asked.names) sought.left
 
 -- status 1: a line of one of the named files holds it
 pub record KeyStanding (rows : List Row) (key : List ℕ) (s : SourceState) (r : Response) : Type 0 where
   pub sought : KeySought rows key s r
-  pub stands : SomeFile (StandsIn sought.asked.kind sought.fingerprint) sought.asked.names sought.left
+  pub stands : SomeFile (StandsIn sought.asked.kind sought.fingerprint) (map (λ name. name.path) sought.asked.names) sought.left

@@ -45,6 +45,7 @@ pub mod ArgsSamples
 pub mod Audits
 pub mod ChosenReads
 pub mod FileAnswers
+pub mod Namings
 pub mod NeededVouches
 pub mod OfferTexts
 pub mod OfferTextsView

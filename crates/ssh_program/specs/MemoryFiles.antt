@@ -1,6 +1,7 @@
 -- A file in memory as a source of files, and the signatures that it lists as a vouch file (this project's rule).
-use Rattle.std.specs.Prelude.{ℕ, List, [], Some, None, Result, Ok, Err, codes, if◌then◌else◌}
+use Rattle.std.specs.Prelude.{ℕ, List, [], None, Result, Ok, Err, codes, if◌then◌else◌}
 use Rattle.std.specs.Str.{bytes_eq}
+use Rattle.ssh_files.specs.declared.files.UnreadCause.TheVariants.{NotFound}
 use Rattle.ssh_files.specs.SourceState.{Chosen, SourceState, named_file, nothing, standard_input}
 use Rattle.ssh_files.specs.VouchFile.{vouched_of}
 use Rattle.ssh_offers.specs.declared.claim.Signed.{Signed}
@@ -21,7 +22,7 @@ chosen_at File left = named_file held_name left
 -- no read of the file in memory fails, so no failed read has a name
 abbrev pub held_source : MemoryFile → SourceState
 held_source h = record {
-  named = λ name. if bytes_eq name held_name then Some h.bytes.now else None;
+  named = λ name. if bytes_eq name held_name then Ok h.bytes.now else Err NotFound;
   input = [];
   chosen = chosen_at h.place h.left.now;
   choices = h.choices;

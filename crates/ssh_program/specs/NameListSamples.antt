@@ -1,8 +1,9 @@
 -- Worked examples of a question with a list of names (this project's rules).
 use Rattle.std.specs.Prelude.{◌≡◌, ◌++◌, true, false, List, [], ◌∷◌, codes, Some, None, Ok, Err, refl}
 use Rattle.clap.specs.Words.{Text}
-use Rattle.ssh_program.specs.declared.name_list.NameFault.TheVariants.{Empty, Input, Tab}
+use Rattle.ssh_program.specs.declared.name_list.NameFault.TheVariants.{Empty, Input, Tab, Unlabelled}
 use Rattle.ssh_program.specs.declared.name_list.ListError.TheVariants.{Name}
+use Rattle.ssh_program.specs.declared.naming.Naming.TheVariants.{Labelled, Path}
 use Rattle.ssh_program.specs.FilesFrom.{list_name, listed_words, reads_twice}
 use Rattle.ssh_program.specs.NameLists.{names_read}
 use Rattle.ssh_program.specs.WordPlaces.{in_turn}
@@ -10,13 +11,16 @@ use Rattle.ssh_program.specs.WordPlaces.{in_turn}
 -- names ended by LF, the last with its end or without; by NUL where there is one; and what is no name
 abbrev pub NamesReported : Type 0
 NamesReported =
-    (names_read (codes "a\n-x y\n") ≡ Ok (codes "a" ∷ codes "-x y" ∷ []))
-    × (names_read (codes "a\n-x y") ≡ Ok (codes "a" ∷ codes "-x y" ∷ []))
-    × (names_read (codes "a\nb" ++ 0 ∷ codes "c") ≡ Ok (codes "a\nb" ∷ codes "c" ∷ []))
-    × (names_read (codes "a\n\nb\n") ≡ Err (Name Empty 2))
-    × (names_read (codes "\n") ≡ Err (Name Empty 1))
-    × (names_read (codes "a\nb\n-\n") ≡ Err (Name Input 3))
-    × (names_read (codes "a\tb\n") ≡ Err (Name Tab 1))
+    (names_read Path (codes "a\n-x y\n") ≡ Ok (codes "a" ∷ codes "-x y" ∷ []))
+    × (names_read Path (codes "a\n-x y") ≡ Ok (codes "a" ∷ codes "-x y" ∷ []))
+    × (names_read Path (codes "a\nb" ++ 0 ∷ codes "c") ≡ Ok (codes "a\nb" ∷ codes "c" ∷ []))
+    × (names_read Path (codes "a\n\nb\n") ≡ Err (Name Empty 2))
+    × (names_read Path (codes "\n") ≡ Err (Name Empty 1))
+    × (names_read Path (codes "a\nb\n-\n") ≡ Err (Name Input 3))
+    × (names_read Path (codes "a\tb\n") ≡ Err (Name Tab 1))
+    × (names_read Labelled (codes "h\tann\t/a\tb\n") ≡ Ok (codes "h\tann\t/a\tb" ∷ []))
+    × (names_read Labelled (codes "h\t/a\n") ≡ Err (Name Unlabelled 1))
+    × (names_read Labelled (codes "h\tann\t-\n") ≡ Err (Name Input 1))
 
 -- the words that are asked: those that remain, and behind `--` the names
 abbrev reported : List Text → List Text → Type 0
@@ -44,7 +48,7 @@ ListsNamed =
     × (reads_twice (in_turn (codes "--files-from" ∷ codes "-" ∷ codes "a" ∷ [])) ≡ false)
 
 pub names_reported : NamesReported
-names_reported = (refl, refl, refl, refl, refl, refl, refl)
+names_reported = (refl, refl, refl, refl, refl, refl, refl, refl, refl, refl)
 
 pub words_listed : WordsListed
 words_listed = (refl, refl)

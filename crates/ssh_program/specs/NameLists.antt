@@ -12,11 +12,15 @@ use Rattle.ssh_print.specs.Responses.{Response, out_of_memory, value_response}
 use Rattle.ssh_print.specs.Texts.{escaped_text}
 use Rattle.ssh_program.specs.declared.args.ArgName.TheVariants as option
 use Rattle.ssh_program.specs.declared.name_list.NameFault.{NameFault}
-use Rattle.ssh_program.specs.declared.name_list.NameFault.TheVariants.{Empty, Input, Tab}
+use Rattle.ssh_program.specs.declared.name_list.NameFault.TheVariants.{Empty, Input, Tab, Unlabelled}
 use Rattle.ssh_program.specs.declared.name_list.ListError.{ListError}
 use Rattle.ssh_program.specs.declared.name_list.ListError.TheVariants as list
+use Rattle.ssh_review.specs.FileNames.{NameSeen}
+use Rattle.ssh_program.specs.declared.naming.Naming.{Naming}
+use Rattle.ssh_program.specs.declared.naming.Naming.TheVariants.{Labelled, Path}
 use Rattle.ssh_program.specs.Guidance.{text_of}
 use Rattle.ssh_program.specs.Help.{wants_text}
+use Rattle.ssh_program.specs.Namings.{labelled}
 use Rattle.ssh_program.specs.Options.{option_word}
 
 -- ---- the names
@@ -41,21 +45,29 @@ names_of text = cut_at_all (name_end text) text
 abbrev pub is_tab : ℕ → Bool
 is_tab b = b == 9
 
--- why a text is no name of a file in a list
-abbrev pub name_fault : Text → Option NameFault
-name_fault name =
-    if length name == 0 then Some Empty
-    else if bytes_eq name dash then Some Input
-    else if list_any is_tab name then Some Tab
-    else None
+-- why this is no path in a list
+abbrev pub path_fault : Text → Option NameFault
+path_fault path = if length path == 0 then Some Empty else if bytes_eq path dash then Some Input else None
+
+abbrev pub tab_fault : Text → Option NameFault
+tab_fault name = if list_any is_tab name then Some Tab else None
+
+abbrev pub labelled_fault : Option NameSeen → Option NameFault
+labelled_fault None = Some Unlabelled
+labelled_fault (Some name) = path_fault name.path
+
+-- why a text is no name of a file in a list; without labels a name has no tab
+abbrev pub name_fault : Naming → Text → Option NameFault
+name_fault Path name = option_or (path_fault name) (tab_fault name)
+name_fault Labelled name = labelled_fault (labelled name)
 
 abbrev pub named_fault : ℕ → Option NameFault → Option ListError
 named_fault n fault = option_map (λ f. list.Name f n) fault
 
 -- the first of these that is no name, by its number; the first has the number n
-abbrev pub first_fault : ℕ → List Text → Option ListError
-first_fault n [] = None
-first_fault n (name ∷ names) = option_or (named_fault n (name_fault name)) (first_fault (n + 1) names)
+abbrev pub first_fault : Naming → ℕ → List Text → Option ListError
+first_fault naming n [] = None
+first_fault naming n (name ∷ names) = option_or (named_fault n (name_fault naming name)) (first_fault naming (n + 1) names)
 
 -- ---- a list
 
@@ -64,17 +76,17 @@ unless_fault None names = Ok names
 unless_fault (Some e) names = Err e
 
 -- the names of a text, or the first that is none
-abbrev pub names_read : Text → Result (List Text) ListError
-names_read text = unless_fault (first_fault 1 (names_of text)) (names_of text)
+abbrev pub names_read : Naming → Text → Result (List Text) ListError
+names_read naming text = unless_fault (first_fault naming 1 (names_of text)) (names_of text)
 
-abbrev pub names_in : Option Text → Result (List Text) ListError
-names_in None = Err list.NotText
-names_in (Some text) = if length text == 0 then Err list.NoName else names_read text
+abbrev pub names_in : Naming → Option Text → Result (List Text) ListError
+names_in naming None = Err list.NotText
+names_in naming (Some text) = if length text == 0 then Err list.NoName else names_read naming text
 
 -- The names of a list of these bytes, which has at least one. (NUL and LF are characters of one byte, so a list is UTF-8
 -- where its names are.)
-abbrev pub list_names : List ℕ → Result (List Text) ListError
-list_names bytes = names_in (text_of bytes)
+abbrev pub list_names : Naming → List ℕ → Result (List Text) ListError
+list_names naming bytes = names_in naming (text_of bytes)
 
 -- the value, or why there is none, or memory could not be allocated
 abbrev pub Lists : {V : Type 0} → (V → List Text) → Result (List Text) ListError → Result V ListError → Type 0
@@ -99,6 +111,7 @@ abbrev pub fault_words : NameFault → Text
 fault_words Empty = codes " is empty"
 fault_words Input = codes " is -, and standard input is no name in a list"
 fault_words Tab = codes " has a tab"
+fault_words Unlabelled = codes " has no host and account, each with a tab behind it"
 
 -- what is wrong with a list; of one that cannot be read it is said where that is said of each file
 abbrev pub list_why : ListError → Text

@@ -41,6 +41,7 @@ option_word option.FailOn = codes "fail-on"
 option_word option.Show = codes "show"
 option_word option.Form = codes "form"
 option_word option.Title = codes "title"
+option_word option.Labels = codes "labels"
 option_word option.FilesFrom = codes "files-from"
 
 abbrev pub is_required : Needed → Bool
@@ -95,14 +96,14 @@ subcommand_options Admits = (option.Key, Optional) ∷ (option.Fingerprint, Opti
 subcommand_options Trusts = (option.Key, Required) ∷ (option.Host, Required) ∷ (option.Now, Required) ∷ (option.Port, Optional)
     ∷ (option.EmptyPrincipals, Optional) ∷ (option.RsaMinimum, Optional) ∷ (option.Form, Optional) ∷ []
 subcommand_options Review = (option.Kind, Required) ∷ (option.Now, Required) ∷ (option.Key, Optional) ∷ (option.Zone, Optional) ∷ (option.RsaMinimum, Optional)
-    ∷ (option.Findings, Optional) ∷ (option.FailOn, Optional) ∷ (option.Show, Optional) ∷ (option.Form, Optional) ∷ (option.Title, Optional) ∷ []
+    ∷ (option.Findings, Optional) ∷ (option.FailOn, Optional) ∷ (option.Show, Optional) ∷ (option.Form, Optional) ∷ (option.Title, Optional) ∷ (option.Labels, Optional) ∷ []
 subcommand_options Explain = []
 
 -- The options of a subcommand as people are reported of them: those, and of `review` a list of names. That is read before the
 -- words are: the question is asked with its names.
 abbrev pub reported_options : Subcommand → List (ArgName × Needed)
 reported_options Review = (option.Kind, Required) ∷ (option.Now, Required) ∷ (option.Key, Optional) ∷ (option.Zone, Optional) ∷ (option.RsaMinimum, Optional)
-    ∷ (option.Findings, Optional) ∷ (option.FailOn, Optional) ∷ (option.Show, Optional) ∷ (option.Form, Optional) ∷ (option.Title, Optional) ∷ (option.FilesFrom, Optional) ∷ []
+    ∷ (option.Findings, Optional) ∷ (option.FailOn, Optional) ∷ (option.Show, Optional) ∷ (option.Form, Optional) ∷ (option.Title, Optional) ∷ (option.Labels, Optional) ∷ (option.FilesFrom, Optional) ∷ []
 reported_options c = subcommand_options c
 
 -- whether a subcommand takes operands (files or codes), and whether at least one has to be given

@@ -3,6 +3,7 @@ use Rattle.std.specs.Prelude.{◌≡◌, ◌++◌, ℕ, nat_lt, false, List, len
 use Rattle.ssh_text.specs.Text.{file_limit}
 use Rattle.ssh_findings.specs.Asking.{Asking}
 use Rattle.ssh_findings.specs.declared.code.Code.{Code}
+use Rattle.ssh_files.specs.declared.files.UnreadCause.{UnreadCause}
 use Rattle.ssh_files.specs.FilesInTurn.{Telling, TellsFiles}
 use Rattle.ssh_files.specs.SourceState.{SourceState}
 use Rattle.ssh_files.specs.declared.read.ReadError.{ReadError}
@@ -19,6 +20,7 @@ use Rattle.ssh_review.specs.declared.end.FileFault.{FileFault}
 use Rattle.ssh_review.specs.declared.end.FileFault.TheVariants.{TooLong, Unread}
 use Rattle.ssh_review.specs.declared.end.Total.{Total}
 use Rattle.ssh_review.specs.Counting.{no_counts}
+use Rattle.ssh_review.specs.FileNames.{NameSeen, shown_name}
 use Rattle.ssh_review.specs.Ends.{total_words}
 use Rattle.ssh_review.specs.PageFiles.{file_counts, file_section, register_row, unread_row, unread_section}
 use Rattle.ssh_program.specs.declared.review.ReviewKind.{ReviewKind}
@@ -45,15 +47,16 @@ pub record FileGiven : Type 0 where
 abbrev pub within : List ℕ → Result (List ℕ) FileFault
 within file = if nat_lt file_limit (length file) then Err TooLong else Ok file
 
-abbrev pub given_bytes : Option (List ℕ) → Result (List ℕ) FileFault
-given_bytes None = Err Unread
-given_bytes (Some file) = within file
+abbrev pub given_bytes : Result (List ℕ) UnreadCause → Result (List ℕ) FileFault
+given_bytes (Err cause) = Err (Unread cause)
+given_bytes (Ok file) = within file
 
 -- a missing file, and one of which a read fails, has the fault A9
-abbrev pub telling_given : Telling FileGiven
+abbrev pub telling_given : Telling NameSeen FileGiven
 telling_given = record {
-  of_bytes = λ name bytes. record { name = name; bytes = given_bytes bytes };
-  of_fault = λ name. record { name = name; bytes = Err Unread };
+  path = λ name. name.path;
+  of_bytes = λ name given. record { name = shown_name name; bytes = given_bytes given };
+  of_fault = λ name cause. record { name = shown_name name; bytes = Err (Unread cause) };
 }
 
 -- the section of this number
@@ -76,9 +79,9 @@ given_kept kind asking (Ok file) = record { counts = file_counts kind asking fil
 given_kept kind asking (Err fault) = fault_kept fault
 
 -- why there is no review of a file whose bytes could not be had
-abbrev pub fault_read : ReadError → FileFault
-fault_read read.TooLong = TooLong
-fault_read e = Unread
+abbrev pub fault_read : ReadError → UnreadCause → FileFault
+fault_read read.TooLong cause = TooLong
+fault_read e cause = Unread cause
 
 -- this was appended to the sections and to the register, and this is counted
 abbrev pub IsReported : FileKind → ℕ → Asking → FileGiven → List ℕ → List ℕ → List ℕ → List ℕ → FileReported → Type 0
@@ -119,7 +122,7 @@ abbrev pub parts_seen : PageParts → PageMarks
 parts_seen p = record { sections = p.sections.items; register = p.register.items; total = p.total }
 
 -- the files of these names tell this, one after the other
-abbrev pub PageReported : ReviewKind → Asking → List (List ℕ) → SourceState → Option SourceState → PageMarks → Type 0
+abbrev pub PageReported : ReviewKind → Asking → List NameSeen → SourceState → Option SourceState → PageMarks → Type 0
 PageReported kind asking names s t k = (sofar : PageSofar) × (k ≡ page_kept sofar) × TellsFiles (with_given kind asking) telling_given no_page names s t sofar
 
 -- ---- the whole
@@ -148,7 +151,7 @@ page_response failing title kind rule asking p = record {
 }
 
 -- nothing is written before the last file was read
-abbrev pub ReviewsPage : List ℕ → ReviewKind → List Code → List ℕ → Asking → List (List ℕ) → SourceState → Option SourceState → Response → Type 0
+abbrev pub ReviewsPage : List ℕ → ReviewKind → List Code → List ℕ → Asking → List NameSeen → SourceState → Option SourceState → Response → Type 0
 ReviewsPage title kind failing rule asking names s t r =
     (reported : PageSofar) × TellsFiles (with_given kind asking) telling_given no_page names s t reported
     × (r ≡ page_response failing title kind rule asking reported)

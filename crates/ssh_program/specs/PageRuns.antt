@@ -25,6 +25,7 @@ use Rattle.ssh_program.specs.FileRuns.{IsPartOf}
 use Rattle.ssh_program.specs.PageReviews.{page_kind}
 use Rattle.ssh_program.specs.ReviewForms.{asks_page}
 use Rattle.ssh_program.specs.ReviewZones.{review_rule}
+use Rattle.ssh_review.specs.FileNames.{NameSeen, shown_name}
 use Rattle.ssh_program.specs.Spelled.{PageAsked, on_page, review_spelled}
 use Rattle.ssh_program.specs.Totals.{counted}
 
@@ -52,11 +53,11 @@ PrintsSection asked number name text file =
     IsPartOf (page (marks (file_section (page_kind asked.kind) number asked.asking name file))) text × ShowsRows asked.kind asked number file
 
 -- each of the files is there, one read after the other, and has its section, of the next number
-abbrev pub PrintsSections : PageAsked → ℕ → List ℕ → List (List ℕ) → SourceState → Type 0
+abbrev pub PrintsSections : PageAsked → ℕ → List ℕ → List NameSeen → SourceState → Type 0
 PrintsSections asked number text [] s = Unit {0}
 PrintsSections asked number text (name ∷ names) s =
-    ((file : List ℕ) × (bytes_at s name ≡ Some file) × PrintsSection asked number name text file)
-    × ((m : SourceState) × KeepsOthers name s (Some m) × PrintsSections asked (counted number 1) text names m)
+    ((file : List ℕ) × (bytes_at s name.path ≡ Some file) × PrintsSection asked number (shown_name name) text file)
+    × ((m : SourceState) × KeepsOthers name.path s (Some m) × PrintsSections asked (counted number 1) text names m)
 
 -- status 0 or 1: whoever is let in by one of the named files is so by a line that has a row on the page
 pub record FilesOnPage (rows : List Row) (s : SourceState) (r : Response) : Type 0 where

@@ -10,10 +10,12 @@ use Rattle.ssh_files.specs.SourceState.{SourceState}
 use Rattle.ssh_files.specs.Values.{ReadsZone, number_below}
 use Rattle.ssh_print.specs.Responses.{Response}
 use Rattle.ssh_review.specs.declared.end.Form.{Form}
+use Rattle.ssh_review.specs.FileNames.{NameSeen}
 use Rattle.ssh_review.specs.declared.show.Show.{Show}
 use Rattle.ssh_program.specs.declared.review.ReviewKind.{ReviewKind}
 use Rattle.ssh_program.specs.declared.review.ReviewKind.TheVariants.{Auth, Known}
 use Rattle.ssh_program.specs.KeySeeking.{ReviewsFor}
+use Rattle.ssh_program.specs.Namings.{names_asked}
 use Rattle.ssh_program.specs.PageReviews.{ReviewsPage}
 use Rattle.ssh_program.specs.ReviewFails.{failing_asked}
 use Rattle.ssh_program.specs.ReviewForms.{FormAsked, as_lines, as_page, review_form}
@@ -41,7 +43,7 @@ pub record ReviewCall : Type 0 where
   pub failing : List Code
   pub rule : List ℕ
   pub asking : Asking
-  pub names : List (List ℕ)
+  pub names : List NameSeen
 
 -- the same of an answer in lines of this output format, of which this is shown
 pub record ReviewAsked : Type 0 where
@@ -51,7 +53,7 @@ pub record ReviewAsked : Type 0 where
   pub failing : List Code
   pub rule : List ℕ
   pub asking : Asking
-  pub names : List (List ℕ)
+  pub names : List NameSeen
 
 abbrev pub in_lines : ReviewAsked → ReviewCall
 in_lines a = record { kind = a.kind; form = as_lines a.show a.form; failing = a.failing; rule = a.rule; asking = a.asking; names = a.names }
@@ -63,7 +65,7 @@ pub record PageAsked : Type 0 where
   pub failing : List Code
   pub rule : List ℕ
   pub asking : Asking
-  pub names : List (List ℕ)
+  pub names : List NameSeen
 
 abbrev pub on_page : PageAsked → ReviewCall
 on_page a = record { kind = a.kind; form = as_page a.title; failing = a.failing; rule = a.rule; asking = a.asking; names = a.names }
@@ -77,7 +79,8 @@ review_spelled rows zone = do
   reported ← value_or default_codes codes_in option.Findings rows
   form ← review_form kind rows
   failing ← failing_asked reported rows
-  names ← names_needed rows
+  words ← names_needed rows
+  names ← names_asked rows words
   Ok (record {
     kind = kind;
     form = form;
@@ -88,7 +91,7 @@ review_spelled rows zone = do
   })
 
 -- as lines, or as a page; where a key is asked for, the reviews are for it, and its value is read after those of the other options
-abbrev pub ReviewsAs : FormAsked → Option (List ℕ) → ReviewKind → List Code → List ℕ → Asking → List (List ℕ) → SourceState → Option SourceState → Response → Type 0
+abbrev pub ReviewsAs : FormAsked → Option (List ℕ) → ReviewKind → List Code → List ℕ → Asking → List NameSeen → SourceState → Option SourceState → Response → Type 0
 ReviewsAs (as_lines show form) key kind failing rule asking names = ReviewsFor key kind show failing form rule asking names
 ReviewsAs (as_page title) key kind failing rule asking names = ReviewsPage title kind failing rule asking names
 

@@ -59,6 +59,7 @@ pub enum ArgName {
     Show,
     Form,
     Title,
+    Labels,
     FilesFrom,
 }
 
@@ -97,6 +98,7 @@ impl ArgName {
             ArgName::Show => "show",
             ArgName::Form => "form",
             ArgName::Title => "title",
+            ArgName::Labels => "labels",
             ArgName::FilesFrom => "files-from",
         }
     }

@@ -279,7 +279,8 @@ fn command_words(
         ∷ words_of (subcommand_named name.now) (around_seen around.now)
         (map (λ word. word.now) words.now)) }
 {
-    let mut reported = Vec::new(alloc);
+    // Beside the words and their command there are at most three options with their values, and a file.
+    let mut reported = Vec::with_capacity(alloc, words.len().saturating_add(8))?;
     push_text(alloc, &mut reported, name)?;
     push_rest(alloc, &mut reported, Subcommand::named(name), around, words)?;
     Ok(reported)

@@ -2,7 +2,7 @@
 
 ghost use Rattle.std.specs.Prelude.{◌≡◌, ◌++◌, ◌∷◌, IfOk, OnOk, map, option_and_then, option_map};
 ghost use Rattle.std.specs.List.{flat_map, list_any};
-ghost use Rattle.ssh_program.specs.FilesFrom.{asked_by, with_list, dashes, ends_options, first_list, kept_at, kept_words, list_by, list_in, list_name, list_of, listed_words, reads_input, reads_twice, value_of_list};
+ghost use Rattle.ssh_program.specs.FilesFrom.{asked_by, with_list, dashes, ends_options, first_list, kept_at, kept_words, list_by, list_in, list_name, list_of, listed_words, naming_in, reads_input, reads_twice, value_of_list};
 ghost use Rattle.ssh_program.specs.HostPorts.{cut};
 ghost use Rattle.ssh_program.specs.NameLists.{Lists};
 ghost use Rattle.ssh_program.specs.WordPlaces.{in_turn};
@@ -12,8 +12,9 @@ use crate::args::ArgName;
 use crate::guidance::any_asks_help;
 use crate::host_port::cut;
 use crate::name_list::{ListError, list_names};
+use crate::naming::Naming;
 use crate::subcommand::Subcommand;
-use crate::word::{Place, Word, in_turn, is_flag, is_given_twice, names_option};
+use crate::word::{Place, Word, in_turn, is_flag, is_given, is_given_twice, names_option};
 use std::alloc::{AllocError, Global};
 
 /// The value in `--files-from=VALUE`.
@@ -186,12 +187,24 @@ fn listed_words<'a>(
     ensures { IfOk result (λ reported. map (λ word. word.now) reported.items ≡ command.entry.now
         ∷ listed_words (map word_seen words.entry.now) (map (λ name. name.now) names.entry.now)) }
 {
-    let mut reported = Vec::new(alloc);
+    let room = words.len().saturating_add(names.len()).saturating_add(2);
+    let mut reported = Vec::with_capacity(alloc, room)?;
     reported.push(command)?;
     push_kept(&mut reported, words)?;
     push_dashes(&mut reported, words)?;
     reported.extend_from_slice(names)?;
     Ok(reported)
+}
+
+/// What the names of the list are: with labels where the option for them is given.
+fn naming_in(words: &[Word<'_>]) -> Naming
+    ensures { result ≡ naming_in (map word_seen words.now) }
+{
+    if is_given(ArgName::Labels, words) {
+        Naming::Labelled
+    } else {
+        Naming::Path
+    }
 }
 
 /// The words of a command, with the names of this list.
@@ -207,7 +220,7 @@ fn asked_by<'a>(
     if reads_twice(words) {
         return Err(ListError::Input);
     }
-    match list_names(alloc, list) {
+    match list_names(alloc, naming_in(words), list) {
         Ok(names) => Ok(listed_words(alloc, command, words, names.as_slice())?),
         Err(error) => Err(error),
     }

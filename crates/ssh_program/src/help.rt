@@ -73,6 +73,7 @@ fn value_word(option: ArgName) -> &'static [u8]
         ArgName::Show => b"WHAT",
         ArgName::Form => b"FORM",
         ArgName::Title => b"TEXT",
+        ArgName::Labels => b"NAMES",
         ArgName::FilesFrom => b"FILE",
     }
 }
@@ -200,6 +201,8 @@ fn option_sentence(command: Subcommand, option: ArgName) -> &'static [u8]
             b"what is listed: all (so without it), found for lines with a finding, or totals",
         ArgName::Form => form_sentence(command),
         ArgName::Title => b"the heading of the page, with --form html alone",
+        ArgName::Labels =>
+            b"host,account: each name has both before its path, and a tab behind each",
         ArgName::FilesFrom =>
             b"a file of more names, each ended by NUL or by a line end; - is standard input",
     }
@@ -241,6 +244,7 @@ pub fn wanted_value(option: ArgName) -> &'static [u8]
         ArgName::Show => b"all, found or totals",
         ArgName::Form => b"text or json, and of review also html",
         ArgName::Title => b"a text",
+        ArgName::Labels => b"host,account, and names that have both, each with a tab behind it",
         ArgName::FilesFrom => b"a file of names, each ended by NUL or by a line end",
     }
 }

@@ -10,6 +10,8 @@ ghost use Rattle.ssh_program.specs.ArgsView.{Spells};
 ghost use Rattle.ssh_program.specs.FileReviews.{FailedIfStopped, TextPut, TextWritten, TextsWritten};
 ghost use Rattle.ssh_program.specs.FingerprintValues.{is_fingerprint};
 ghost use Rattle.ssh_program.specs.KeySeeking.{ReviewsFor, SeeksBy, SeeksKey, SeeksKeyOfFile, key_review_kept, key_review_of, key_status, key_total, no_key_lines, or_key_fault, spelled_fingerprint, telling_key_review, with_key_file};
+ghost use Rattle.ssh_program.specs.Namings.{names_seen};
+ghost use Rattle.ssh_review.specs.FileNames.{file_head, name_seen};
 ghost use Rattle.ssh_program.specs.OfferPrints.{offer_print};
 ghost use Rattle.ssh_program.specs.Printing.{WritesAnswer};
 ghost use Rattle.ssh_program.specs.Spelling.{RespondsTo};
@@ -19,6 +21,7 @@ use crate::audit::unread;
 use crate::command::{CommandError, respond_fault};
 use crate::fingerprint_value::{is_fingerprint, read_fingerprint};
 use crate::offer_fingerprint::offer_print;
+use crate::naming::ListedNames;
 use crate::printing::{put_made, put_no_memory};
 use crate::review::{FOUND, NOTHING, ReviewKind, review_files, with_counted};
 use crate::sink::Sink;
@@ -27,7 +30,7 @@ use ssh_files::{Files, read_top_line, read_whole};
 use ssh_findings::{Code, ReviewOptions};
 use ssh_keys::digest_text;
 use ssh_print::{DONE, FAULT, OfferedKey, read_offer, show_fault};
-use ssh_review::{Form, Show, Total, auth_key_records, known_key_records};
+use ssh_review::{FileName, Form, Show, Total, auth_key_records, file_head, known_key_records};
 use std::alloc::{AllocError, Global};
 
 /// The status: 2 if a file could not be reviewed, else 1 if the key stands in one of them.
@@ -57,32 +60,61 @@ fn either(one: bool, other: bool) -> bool
     one || other
 }
 
-/// Writes the review for the key with this fingerprint, of a file with this name and these bytes.
+/// Writes the review for the key with this fingerprint, of a file of these bytes, each record of
+/// which begins with this head.
 fn put_bytes_review<W: Sink>(
     alloc: Global,
     kind: ReviewKind,
     form: Form,
     asked: &ReviewOptions<'_>,
     sought: &[u8; 43],
-    name: &[u8],
+    head: &[u8],
     file: &[u8],
     writer: &mut W,
 ) -> Result<FileReported, Stop>
     requires none { NoneFailed (W.account writer.old) }
     requires limit { length file.now ≤ file_limit }
     ensures failed { FailedIfStopped result (W.account writer.new) }
-    ensures put { TextPut (key_review_of sought.now kind form (asking_of asked.entry.now) name.now file.now).file.text
-        (key_review_kept (key_review_of sought.now kind form (asking_of asked.entry.now) name.now file.now))
+    ensures put { TextPut (key_review_of sought.now kind form (asking_of asked.entry.now) head.now file.now).file.text
+        (key_review_kept (key_review_of sought.now kind form (asking_of asked.entry.now) head.now file.now))
         (W.account writer.old) (W.account writer.new) result }
 {
     match kind {
         ReviewKind::Auth => {
             let records = auth_key_records(alloc, file, sought)?;
-            put_review(alloc, Show::All, form, asked, name, file, records, writer)
+            put_review(alloc, Show::All, form, asked, head, file, records, writer)
         }
         ReviewKind::Known => {
             let records = known_key_records(alloc, file, sought)?;
-            put_review(alloc, Show::All, form, asked, name, file, records, writer)
+            put_review(alloc, Show::All, form, asked, head, file, records, writer)
+        }
+    }
+}
+
+/// Writes the review of the file of this name, each record of which begins with this head.
+fn put_headed<F: Files, W: Sink>(
+    alloc: Global,
+    kind: ReviewKind,
+    form: Form,
+    asked: &ReviewOptions<'_>,
+    sought: &[u8; 43],
+    name: FileName<'_>,
+    head: &[u8],
+    files: &mut F,
+    writer: &mut W,
+) -> Result<FileReported, Stop>
+    requires none { NoneFailed (W.account writer.old) }
+    requires head { head.now ≡ file_head form (name_seen name) }
+    ensures failed { FailedIfStopped result (W.account writer.new) }
+    ensures reported { TextWritten (telling_key_review sought.now kind form (asking_of asked.entry.now))
+        (λ r. r.file.text) key_review_kept (name_seen name.entry) (F.source_state files.old)
+        (F.source_state files.new) (W.account writer.old) (W.account writer.new) result }
+{
+    match read_whole(alloc, files, name.path) {
+        Ok(file) => put_bytes_review(alloc, kind, form, asked, sought, head, &file, writer),
+        Err(fault) => {
+            let cause = files.unread_cause(name.path);
+            put_unread(alloc, form, head, fault, cause, writer)
         }
     }
 }
@@ -94,29 +126,18 @@ fn put_file<F: Files, W: Sink>(
     form: Form,
     asked: &ReviewOptions<'_>,
     sought: &[u8; 43],
-    name: &str,
+    name: FileName<'_>,
     files: &mut F,
     writer: &mut W,
 ) -> Result<FileReported, Stop>
     requires { NoneFailed (W.account writer.old) }
     ensures failed { FailedIfStopped result (W.account writer.new) }
     ensures reported { TextWritten (telling_key_review sought.now kind form (asking_of asked.entry.now))
-        (λ r. r.file.text) key_review_kept name.now (F.source_state files.old)
+        (λ r. r.file.text) key_review_kept (name_seen name.entry) (F.source_state files.old)
         (F.source_state files.new) (W.account writer.old) (W.account writer.new) result }
 {
-    match read_whole(alloc, files, name) {
-        Ok(file) => put_bytes_review(
-            alloc,
-            kind,
-            form,
-            asked,
-            sought,
-            name.as_bytes(),
-            &file,
-            writer,
-        ),
-        Err(fault) => put_unread(alloc, form, name.as_bytes(), fault, writer),
-    }
+    let head = file_head(alloc, form, name)?;
+    put_headed(alloc, kind, form, asked, sought, name, &head, files, writer)
 }
 
 /// Writes the reviews of the files of these names, one after the other, and returns their total.
@@ -126,7 +147,7 @@ fn tell_files<F: Files, W: Sink>(
     form: Form,
     asked: &ReviewOptions<'_>,
     sought: &[u8; 43],
-    names: &[&str],
+    names: ListedNames<'_>,
     files: &mut F,
     writer: &mut W,
 ) -> Result<KeyTotal, Stop>
@@ -134,12 +155,13 @@ fn tell_files<F: Files, W: Sink>(
     ensures failed { FailedIfStopped result (W.account writer.new) }
     ensures reported { IfTells (F.source_state files.old) (λ s. TextsWritten with_key_file
         (telling_key_review sought.now kind form (asking_of asked.entry.now)) no_key_lines
-        (λ reported. reported.lines.text) (λ r. r.file.text) key_total (map (λ name. name.now) names.now) s
+        (λ reported. reported.lines.text) (λ r. r.file.text) key_total (names_seen names.entry) s
         (F.source_state files.new) (W.account writer.old) (W.account writer.new) result) }
 {
     let mut total = NOTHING;
     let mut stands = false;
-    for name in names {
+    for word in names.words {
+        let name = names.naming.name_of(word);
         let reported = put_file(alloc, kind, form, asked, sought, name, files, writer)?;
         total = with_counted(total, reported.counts, reported.fault);
         stands = either(stands, reported.stands);
@@ -156,14 +178,14 @@ fn seek_key<F: Files, W: Sink>(
     form: Form,
     rule: &[u8],
     asked: &ReviewOptions<'_>,
-    names: &[&str],
+    names: ListedNames<'_>,
     sought: &[u8; 43],
     files: &mut F,
     writer: &mut W,
 ) -> u8
     requires { NoneFailed (W.account writer.old) }
     ensures { IfTells (F.source_state files.old) (λ s. WritesAnswer
-        (SeeksKey kind form rule.now (asking_of asked.entry.now) (map (λ name. name.now) names.now)
+        (SeeksKey kind form rule.now (asking_of asked.entry.now) (names_seen names.entry)
         sought.now s (F.source_state files.new))
         (W.account writer.old) (W.account writer.new) result) }
 {
@@ -202,14 +224,14 @@ fn seek_offer<F: Files, W: Sink>(
     form: Form,
     rule: &[u8],
     asked: &ReviewOptions<'_>,
-    names: &[&str],
+    names: ListedNames<'_>,
     offer: &OfferedKey,
     files: &mut F,
     writer: &mut W,
 ) -> u8
     requires { NoneFailed (W.account writer.old) }
     ensures { IfTells (F.source_state files.old) (λ s. WritesAnswer
-        (SeeksKey kind form rule.now (asking_of asked.entry.now) (map (λ name. name.now) names.now)
+        (SeeksKey kind form rule.now (asking_of asked.entry.now) (names_seen names.entry)
         (offer_print (offer_seen offer.now)) s (F.source_state files.new))
         (W.account writer.old) (W.account writer.new) result) }
 {
@@ -228,14 +250,14 @@ fn seek_by_line<F: Files, W: Sink>(
     form: Form,
     rule: &[u8],
     asked: &ReviewOptions<'_>,
-    names: &[&str],
+    names: ListedNames<'_>,
     line: &[u8],
     files: &mut F,
     writer: &mut W,
 ) -> u8
     requires { NoneFailed (W.account writer.old) }
     ensures { IfTells (F.source_state files.old) (λ s. WritesAnswer
-        (RespondsTo (SeeksKey kind form rule.now (asking_of asked.entry.now) (map (λ name. name.now) names.now))
+        (RespondsTo (SeeksKey kind form rule.now (asking_of asked.entry.now) (names_seen names.entry))
         (or_key_fault (shown_offer_in line.now)) s (F.source_state files.new))
         (W.account writer.old) (W.account writer.new) result) }
 {
@@ -253,14 +275,14 @@ fn seek_key_of_file<F: Files, W: Sink>(
     form: Form,
     rule: &[u8],
     asked: &ReviewOptions<'_>,
-    names: &[&str],
+    names: ListedNames<'_>,
     key: &str,
     files: &mut F,
     writer: &mut W,
 ) -> u8
     requires { NoneFailed (W.account writer.old) }
     ensures { IfTells (F.source_state files.old) (λ s. WritesAnswer
-        (SeeksKeyOfFile kind form rule.now (asking_of asked.entry.now) (map (λ name. name.now) names.now) key.now s
+        (SeeksKeyOfFile kind form rule.now (asking_of asked.entry.now) (names_seen names.entry) key.now s
         (F.source_state files.new)) (W.account writer.old) (W.account writer.new) result) }
 {
     match read_top_line(alloc, files, key) {
@@ -276,14 +298,14 @@ fn seek_fingerprint<F: Files, W: Sink>(
     form: Form,
     rule: &[u8],
     asked: &ReviewOptions<'_>,
-    names: &[&str],
+    names: ListedNames<'_>,
     text: &str,
     files: &mut F,
     writer: &mut W,
 ) -> u8
     requires { NoneFailed (W.account writer.old) }
     ensures { IfTells (F.source_state files.old) (λ s. WritesAnswer
-        (RespondsTo (SeeksKey kind form rule.now (asking_of asked.entry.now) (map (λ name. name.now) names.now))
+        (RespondsTo (SeeksKey kind form rule.now (asking_of asked.entry.now) (names_seen names.entry))
         (spelled_fingerprint text.now) s (F.source_state files.new))
         (W.account writer.old) (W.account writer.new) result) }
 {
@@ -302,7 +324,7 @@ fn seek<F: Files, W: Sink>(
     form: Form,
     rule: &[u8],
     asked: &ReviewOptions<'_>,
-    names: &[&str],
+    names: ListedNames<'_>,
     key: &str,
     files: &mut F,
     writer: &mut W,
@@ -310,7 +332,7 @@ fn seek<F: Files, W: Sink>(
     requires { NoneFailed (W.account writer.old) }
     ensures { IfTells (F.source_state files.old) (λ s. WritesAnswer
         (SeeksBy (is_fingerprint key.now) kind form rule.now (asking_of asked.entry.now)
-        (map (λ name. name.now) names.now) key.now s (F.source_state files.new))
+        (names_seen names.entry) key.now s (F.source_state files.new))
         (W.account writer.old) (W.account writer.new) result) }
 {
     if is_fingerprint(key) {
@@ -330,7 +352,7 @@ pub fn review_for<F: Files, W: Sink>(
     form: Form,
     rule: &[u8],
     asked: &ReviewOptions<'_>,
-    names: &[&str],
+    names: ListedNames<'_>,
     key: Option<&str>,
     files: &mut F,
     writer: &mut W,
@@ -338,7 +360,7 @@ pub fn review_for<F: Files, W: Sink>(
     requires { NoneFailed (W.account writer.old) }
     ensures { IfTells (F.source_state files.old) (λ s. WritesAnswer
         (ReviewsFor (option_map (λ k. k.now) key.entry) kind show failing.now form rule.now (asking_of asked.entry.now)
-        (map (λ name. name.now) names.now) s (F.source_state files.new))
+        (names_seen names.entry) s (F.source_state files.new))
         (W.account writer.old) (W.account writer.new) result) }
 {
     match key {

@@ -1,7 +1,7 @@
 //! Laws of the definitions, and worked examples: the check proves what each function ensures. No call
 //! needs them.
 
-ghost use Rattle.std.specs.Prelude.{◌≡◌, ◌++◌, ℕ, List, Option, Ok, codes, Some, length, slice_get};
+ghost use Rattle.std.specs.Prelude.{◌≡◌, ◌++◌, ℕ, List, Option, Ok, Result, codes, Some, length, slice_get};
 ghost use Rattle.std.specs.Fmt.{decimal};
 ghost use Rattle.std.specs.List.{AllByRecursion};
 ghost use Rattle.ssh_bodies.specs.Sshsig.{Sshsig, digest_of};
@@ -11,6 +11,7 @@ ghost use Rattle.ssh_offers.specs.declared.claim.Signed.{Signed as SignedValue, 
 ghost use Rattle.ssh_offers.specs.Query.{HostCheck, Login as LoginAsked, Login};
 ghost use Rattle.ssh_print.specs.DecisionText.{evidence_line};
 ghost use Rattle.ssh_files.specs.SourceState.{SourceState};
+ghost use Rattle.ssh_files.specs.declared.files.UnreadCause.{UnreadCause};
 ghost use Rattle.ssh_files.specs.VouchFile.{vouched_of};
 ghost use Rattle.ssh_program.specs.FileNames.{AuditFiles};
 ghost use Rattle.ssh_program.specs.FilesFrom.{NamesBehind, OperandsBehind};
@@ -25,6 +26,7 @@ ghost use Rattle.ssh_text.specs.Text.{lines_of};
 ghost use Rattle.ssh_print.specs.Denials.{HoldsAnother};
 ghost use Rattle.ssh_print.specs.PossibleLines.{sought_blob};
 ghost use Rattle.ssh_program.specs.Admissions.{status_by};
+ghost use Rattle.ssh_review.specs.FileNames.{NameSeen};
 ghost use Rattle.ssh_review.specs.declared.end.Form.{Form};
 ghost use Rattle.ssh_program.specs.Clients.{login_asking};
 ghost use Rattle.ssh_trust.specs.declared.decision.Decision.{Decision as DecisionValue};
@@ -175,13 +177,13 @@ fn fingerprints_as_read()
 /// gives, and where a read of it fails.
 fn page_total_rule()
     ensures read { (kind : ReviewKind) (show : Shown) (form : Form) (asking : Asking) (page : PageSofar)
-        (reported : Lines) (name : List ℕ) (bytes : Option (List ℕ))
+        (reported : Lines) (name : NameSeen) (given : Result (List ℕ) UnreadCause)
         → page.total ≡ reported.total
-        → (with_given kind asking page (telling_given.of_bytes name bytes)).total
-        ≡ (with_file reported ((telling_review kind show form asking).of_bytes name bytes)).total }
+        → (with_given kind asking page (telling_given.of_bytes name given)).total
+        ≡ (with_file reported ((telling_review kind show form asking).of_bytes name given)).total }
     ensures failed { (kind : ReviewKind) (show : Shown) (form : Form) (asking : Asking) (page : PageSofar)
-        (reported : Lines) (name : List ℕ)
+        (reported : Lines) (name : NameSeen) (cause : UnreadCause)
         → page.total ≡ reported.total
-        → (with_given kind asking page (telling_given.of_fault name)).total
-        ≡ (with_file reported ((telling_review kind show form asking).of_fault name)).total }
+        → (with_given kind asking page (telling_given.of_fault name cause)).total
+        ≡ (with_file reported ((telling_review kind show form asking).of_fault name cause)).total }
 {}

@@ -40,6 +40,7 @@ mod key_seeking;
 mod kinds;
 mod laws;
 mod name_list;
+mod naming;
 mod offer_fingerprint;
 mod page_front;
 mod pieces;

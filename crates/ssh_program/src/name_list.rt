@@ -3,12 +3,13 @@
 ghost use Rattle.std.specs.Prelude.{◌≡◌, ◌++◌, ◌==◌, ◌<◌, IfOk, OnOk, map};
 ghost use Rattle.std.specs.List.{after_first, before_first, list_any};
 ghost use Rattle.ssh_program.specs.Account.{NoneFailed};
-ghost use Rattle.ssh_program.specs.NameLists.{Lists, fault_words, is_nul, is_tab, list_guidance, list_names, list_response, list_why, name_end, name_fault, names_read, reported_why, unread_list, why_line};
+ghost use Rattle.ssh_program.specs.NameLists.{Lists, fault_words, is_nul, is_tab, list_guidance, list_names, list_response, list_why, name_end, name_fault, names_read, path_fault, reported_why, tab_fault, unread_list, why_line};
 ghost use Rattle.ssh_program.specs.Printing.{WritesResponse};
 ghost use Rattle.ssh_program.specs.declared.name_list.ListError.TheVariants.{Memory, Name};
 
 use crate::args::ArgName;
 use crate::guidance::{push_wanted, text_of};
+use crate::naming::{Naming, labelled};
 use crate::printing::put_fault;
 use crate::sink::Sink;
 use ssh_files::ReadError;
@@ -21,8 +22,10 @@ pub enum NameFault {
     Empty,
     /// It is `-`, standard input.
     Input,
-    /// It has a tab. What stands behind one may come to say more of a file.
+    /// It has a tab, and names have no labels.
     Tab,
+    /// It lacks the labels that names are to have.
+    Unlabelled,
 }
 
 /// Why there is no list of names to ask with.
@@ -81,18 +84,39 @@ fn name_end(text: &str) -> char
     if has_nul(text.as_bytes()) { '\0' } else { '\n' }
 }
 
-/// Why a text is no name of a file; `None` of a name.
-fn name_fault(name: &str) -> Option<NameFault>
-    ensures { result ≡ name_fault name.now }
+/// Why this is no path in a list; `None` of a path.
+fn path_fault(path: &str) -> Option<NameFault>
+    ensures { result ≡ path_fault path.now }
 {
-    if name.is_empty() {
+    if path.is_empty() {
         Some(NameFault::Empty)
-    } else if name == "-" {
+    } else if path == "-" {
         Some(NameFault::Input)
-    } else if has_tab(name.as_bytes()) {
+    } else {
+        None
+    }
+}
+
+fn tab_fault(name: &str) -> Option<NameFault>
+    ensures { result ≡ tab_fault name.now }
+{
+    if has_tab(name.as_bytes()) {
         Some(NameFault::Tab)
     } else {
         None
+    }
+}
+
+/// Why a text is no name of a file; `None` of a name.
+fn name_fault(naming: Naming, name: &str) -> Option<NameFault>
+    ensures { result ≡ name_fault naming name.now }
+{
+    match naming {
+        Naming::Path => path_fault(name).or(tab_fault(name)),
+        Naming::Labelled => match labelled(name) {
+            Some(name) => path_fault(name.path),
+            None => Some(NameFault::Unlabelled),
+        },
     }
 }
 
@@ -119,16 +143,16 @@ fn behind_name(text: &str, end: char) -> &str
 }
 
 /// The names of a text, or the first that is none.
-fn read_names<'a>(alloc: Global, text: &'a str) -> Result<Vec<&'a str>, ListError>
-    ensures { Lists (λ names. map (λ name. name.now) names.items) (names_read text.entry.now)
-        result }
+fn read_names<'a>(alloc: Global, naming: Naming, text: &'a str) -> Result<Vec<&'a str>, ListError>
+    ensures { Lists (λ names. map (λ name. name.now) names.items)
+        (names_read naming text.entry.now) result }
 {
     let end = name_end(text);
     let mut names = Vec::new(alloc);
     let mut rest = text;
     while !rest.is_empty() {
         let name = first_name(rest, end);
-        match name_fault(name) {
+        match name_fault(naming, name) {
             Some(fault) => return Err(ListError::Name(fault, names.len() + 1)),
             None => {}
         }
@@ -143,14 +167,18 @@ fn read_names<'a>(alloc: Global, text: &'a str) -> Result<Vec<&'a str>, ListErro
 
 /// The names of a list, each ended by NUL, or by LF where the list has no NUL; the last may lack
 /// its end.
-pub fn list_names<'a>(alloc: Global, list: &'a [u8]) -> Result<Vec<&'a str>, ListError>
-    ensures { Lists (λ names. map (λ name. name.now) names.items) (list_names list.entry.now)
-        result }
+pub fn list_names<'a>(
+    alloc: Global,
+    naming: Naming,
+    list: &'a [u8],
+) -> Result<Vec<&'a str>, ListError>
+    ensures { Lists (λ names. map (λ name. name.now) names.items)
+        (list_names naming list.entry.now) result }
 {
     match text_of(list) {
         None => Err(ListError::NotText),
         Some(text) if text.is_empty() => Err(ListError::NoName),
-        Some(text) => read_names(alloc, text),
+        Some(text) => read_names(alloc, naming, text),
     }
 }
 
@@ -180,6 +208,7 @@ fn fault_words(fault: NameFault) -> &'static [u8]
         NameFault::Empty => b" is empty",
         NameFault::Input => b" is -, and standard input is no name in a list",
         NameFault::Tab => b" has a tab",
+        NameFault::Unlabelled => b" has no host and account, each with a tab behind it",
     }
 }
 

@@ -14,6 +14,8 @@ ghost use Rattle.ssh_findings.specs.Asking.{asking_of};
 ghost use Rattle.ssh_files.specs.SourceState.{IfTells};
 ghost use Rattle.ssh_program.specs.Account.{NoneFailed};
 ghost use Rattle.ssh_program.specs.FileReviews.{FailedIfStopped, ReviewsFiles, TextPut, TextWritten, TextsWritten, review_kept, kind_name, no_lines, review_of, telling_review, with_file};
+ghost use Rattle.ssh_program.specs.Namings.{names_seen};
+ghost use Rattle.ssh_review.specs.FileNames.{file_head, name_seen};
 ghost use Rattle.ssh_program.specs.Printing.{WritesAnswer};
 ghost use Rattle.ssh_program.specs.Writing.{IfWritten};
 ghost use Rattle.jiff.specs.Words.{plain_zone};
@@ -22,6 +24,7 @@ ghost use Rattle.ssh_program.specs.declared.args.ArgName.TheVariants as option;
 use crate::args::{ArgName, Args};
 use crate::command::{CommandError, respond_fault};
 use crate::key_seeking::review_for;
+use crate::naming::{ListedNames, names_asked};
 use crate::printing::{put_made, put_no_memory};
 use crate::review_fail::{failing_codes, fails_by};
 use crate::review_form::{ReviewForm, review_form};
@@ -33,7 +36,10 @@ use jiff::tz::TimeZone;
 use ssh_files::{Files, read_bits, read_whole, zone_of};
 use ssh_findings::{Code, ReviewOptions, parse_codes};
 use ssh_print::{DONE, FAULT};
-use ssh_review::{Counts, FaultCounts, FileFault, Form, Show, Total, auth_records, known_records};
+use ssh_review::{
+    Counts, FaultCounts, FileFault, FileName, Form, Show, Total, auth_records, file_head,
+    known_records,
+};
 use std::alloc::Global;
 
 /// The format of the files under review.
@@ -174,32 +180,60 @@ pub fn total_status(failing: &[Code], total: &Total) -> u8
     }
 }
 
-/// Writes what is shown of the review of a file with this name and these bytes.
+/// Writes what is shown of the review of a file of these bytes, each record of which begins with this head.
 fn put_bytes_review<W: Sink>(
     alloc: Global,
     kind: ReviewKind,
     show: Show,
     form: Form,
     asked: &ReviewOptions<'_>,
-    name: &[u8],
+    head: &[u8],
     file: &[u8],
     writer: &mut W,
 ) -> Result<FileReported, Stop>
     requires none { NoneFailed (W.account writer.old) }
     requires limit { length file.now ≤ file_limit }
     ensures failed { FailedIfStopped result (W.account writer.new) }
-    ensures put { TextPut (review_of kind show form (asking_of asked.entry.now) name.now file.now).text
-        (review_kept (review_of kind show form (asking_of asked.entry.now) name.now file.now))
+    ensures put { TextPut (review_of kind show form (asking_of asked.entry.now) head.now file.now).text
+        (review_kept (review_of kind show form (asking_of asked.entry.now) head.now file.now))
         (W.account writer.old) (W.account writer.new) result }
 {
     match kind {
         ReviewKind::Auth => {
             let records = auth_records(alloc, file)?;
-            put_review(alloc, show, form, asked, name, file, records, writer)
+            put_review(alloc, show, form, asked, head, file, records, writer)
         }
         ReviewKind::Known => {
             let records = known_records(alloc, file)?;
-            put_review(alloc, show, form, asked, name, file, records, writer)
+            put_review(alloc, show, form, asked, head, file, records, writer)
+        }
+    }
+}
+
+/// Writes the review of the file of this name, each record of which begins with this head.
+fn put_headed<F: Files, W: Sink>(
+    alloc: Global,
+    kind: ReviewKind,
+    show: Show,
+    form: Form,
+    asked: &ReviewOptions<'_>,
+    name: FileName<'_>,
+    head: &[u8],
+    files: &mut F,
+    writer: &mut W,
+) -> Result<FileReported, Stop>
+    requires none { NoneFailed (W.account writer.old) }
+    requires head { head.now ≡ file_head form (name_seen name) }
+    ensures failed { FailedIfStopped result (W.account writer.new) }
+    ensures reported { TextWritten (telling_review kind show form (asking_of asked.entry.now)) (λ r. r.text)
+        review_kept (name_seen name.entry) (F.source_state files.old) (F.source_state files.new)
+        (W.account writer.old) (W.account writer.new) result }
+{
+    match read_whole(alloc, files, name.path) {
+        Ok(file) => put_bytes_review(alloc, kind, show, form, asked, head, &file, writer),
+        Err(fault) => {
+            let cause = files.unread_cause(name.path);
+            put_unread(alloc, form, head, fault, cause, writer)
         }
     }
 }
@@ -211,29 +245,18 @@ fn put_file<F: Files, W: Sink>(
     show: Show,
     form: Form,
     asked: &ReviewOptions<'_>,
-    name: &str,
+    name: FileName<'_>,
     files: &mut F,
     writer: &mut W,
 ) -> Result<FileReported, Stop>
     requires { NoneFailed (W.account writer.old) }
     ensures failed { FailedIfStopped result (W.account writer.new) }
     ensures reported { TextWritten (telling_review kind show form (asking_of asked.entry.now)) (λ r. r.text)
-        review_kept name.now (F.source_state files.old) (F.source_state files.new)
+        review_kept (name_seen name.entry) (F.source_state files.old) (F.source_state files.new)
         (W.account writer.old) (W.account writer.new) result }
 {
-    match read_whole(alloc, files, name) {
-        Ok(file) => put_bytes_review(
-            alloc,
-            kind,
-            show,
-            form,
-            asked,
-            name.as_bytes(),
-            &file,
-            writer,
-        ),
-        Err(fault) => put_unread(alloc, form, name.as_bytes(), fault, writer),
-    }
+    let head = file_head(alloc, form, name)?;
+    put_headed(alloc, kind, show, form, asked, name, &head, files, writer)
 }
 
 /// Writes the reviews of the files of these names, one after the other, and returns their total. In
@@ -244,7 +267,7 @@ fn tell_files<F: Files, W: Sink>(
     show: Show,
     form: Form,
     asked: &ReviewOptions<'_>,
-    names: &[&str],
+    names: ListedNames<'_>,
     files: &mut F,
     writer: &mut W,
 ) -> Result<Total, Stop>
@@ -252,11 +275,12 @@ fn tell_files<F: Files, W: Sink>(
     ensures failed { FailedIfStopped result (W.account writer.new) }
     ensures reported { IfTells (F.source_state files.old) (λ s. TextsWritten with_file
         (telling_review kind show form (asking_of asked.entry.now)) no_lines (λ reported. reported.text)
-        (λ r. r.text) (λ reported. reported.total) (map (λ name. name.now) names.now) s (F.source_state files.new)
+        (λ r. r.text) (λ reported. reported.total) (names_seen names.entry) s (F.source_state files.new)
         (W.account writer.old) (W.account writer.new) result) }
 {
     let mut total = NOTHING;
-    for name in names {
+    for word in names.words {
+        let name = names.naming.name_of(word);
         let reported = put_file(alloc, kind, show, form, asked, name, files, writer)?;
         total = with_counted(total, reported.counts, reported.fault);
     }
@@ -274,14 +298,14 @@ pub fn review_files<F: Files, W: Sink>(
     form: Form,
     rule: &[u8],
     asked: &ReviewOptions<'_>,
-    names: &[&str],
+    names: ListedNames<'_>,
     files: &mut F,
     writer: &mut W,
 ) -> u8
     requires { NoneFailed (W.account writer.old) }
     ensures { IfTells (F.source_state files.old) (λ s. WritesAnswer
         (ReviewsFiles kind show failing.now form rule.now (asking_of asked.entry.now)
-        (map (λ name. name.now) names.now) s (F.source_state files.new))
+        (names_seen names.entry) s (F.source_state files.new))
         (W.account writer.old) (W.account writer.new) result) }
 {
     match tell_files(alloc, kind, show, form, asked, names, files, writer) {
@@ -302,7 +326,7 @@ fn review_as<F: Files, W: Sink>(
     form: ReviewForm<'_>,
     rule: &[u8],
     asked: &ReviewOptions<'_>,
-    names: &[&str],
+    names: ListedNames<'_>,
     key: Option<&str>,
     files: &mut F,
     writer: &mut W,
@@ -310,7 +334,7 @@ fn review_as<F: Files, W: Sink>(
     requires { NoneFailed (W.account writer.old) }
     ensures { IfTells (F.source_state files.old) (λ s. WritesAnswer
         (ReviewsAs (form_seen form.entry) (option_map (λ k. k.now) key.entry) kind failing.now rule.now (asking_of asked.entry.now)
-        (map (λ name. name.now) names.now) s (F.source_state files.new))
+        (names_seen names.entry) s (F.source_state files.new))
         (W.account writer.old) (W.account writer.new) result) }
 {
     match form {
@@ -349,6 +373,7 @@ fn review_in_zone<F: Files, W: Sink>(
     let form = review_form(words, kind)?;
     let failing = failing_codes(alloc, words, &reported)?;
     let names = words.needed_names()?;
+    let names = names_asked(words, names)?;
     let rule = zone_text(given_rule(words));
     let is_given = is_zone_given(words);
     let asked = ReviewOptions {

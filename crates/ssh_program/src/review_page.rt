@@ -11,23 +11,28 @@ ghost use Rattle.ssh_page.specs.Expanding.{page};
 ghost use Rattle.ssh_review.specs.PageFiles.{unread_row, unread_section};
 ghost use Rattle.ssh_text.specs.Text.{file_limit};
 ghost use Rattle.ssh_program.specs.Account.{NoneFailed};
+ghost use Rattle.ssh_program.specs.Namings.{names_seen};
+ghost use Rattle.ssh_review.specs.FileNames.{name_seen, shown_name};
 ghost use Rattle.ssh_program.specs.PageReviews.{FileGiven, IsReported, PageReported, ReviewsPage, fault_kept, fault_read, given_kept, made_response, page_kind, page_rest, parts_response, parts_seen, row_by, section_by, telling_given};
 ghost use Rattle.ssh_program.specs.Printing.{Breaks, TakesAll, WritesAnswer, WritesResponse};
 
+use crate::naming::ListedNames;
 use crate::page_front::front_of;
 use crate::printing::{put_bytes, put_no_memory};
 use crate::review::{NOTHING, ReviewKind, total_status, with_counted};
 use crate::sink::Sink;
 use crate::streaming::FileReported;
 use arrayvec::ArrayVec;
-use ssh_files::{Files, ReadError, read_whole};
+use ssh_files::{Files, ReadError, UnreadCause, read_whole};
 use ssh_findings::{Code, ReviewOptions};
 use ssh_page::{
     FileKind, HtmlRoom, expand_front, first_html, push_lines_end, push_page_end, push_register_end,
     push_register_head,
 };
 use ssh_print::FAULT;
-use ssh_review::{Counts, FileFault, Total, push_page_fault, push_page_file, total_words};
+use ssh_review::{
+    Counts, FileFault, FileName, Total, push_page_fault, push_page_file, shown_name, total_words,
+};
 use std::alloc::{AllocError, Global};
 use std::io;
 
@@ -111,20 +116,56 @@ fn push_unread(
     number: u64,
     name: &[u8],
     fault: ReadError,
+    cause: UnreadCause,
     sections: &mut Vec<u8>,
     register: &mut Vec<u8>,
 ) -> Result<FileReported, AllocError>
     ensures memory { OnOk result (fault ≢ read.Memory) }
     ensures section { OnOk result (sections.new.items
-        ≡ sections.old.items ++ marks (unread_section number name.now (fault_read fault))) }
+        ≡ sections.old.items ++ marks (unread_section number name.now (fault_read fault cause))) }
     ensures row { OnOk result (register.new.items
-        ≡ register.old.items ++ marks (unread_row number name.now (fault_read fault))) }
-    ensures kept { IfOk result (λ reported. reported ≡ fault_kept (fault_read fault)) }
+        ≡ register.old.items ++ marks (unread_row number name.now (fault_read fault cause))) }
+    ensures kept { IfOk result (λ reported. reported ≡ fault_kept (fault_read fault cause)) }
 {
     match fault {
         ReadError::Memory => Err(AllocError),
         ReadError::TooLong => push_fault(number, name, FileFault::TooLong, sections, register),
-        _ => push_fault(number, name, FileFault::Unread, sections, register),
+        _ => push_fault(
+            number,
+            name,
+            FileFault::Unread(cause),
+            sections,
+            register,
+        ),
+    }
+}
+
+/// Appends what the file of this name has on the page, which shows this of its name.
+fn tell_shown<F: Files>(
+    alloc: Global,
+    kind: FileKind,
+    number: u64,
+    asked: &ReviewOptions<'_>,
+    name: FileName<'_>,
+    shown: &[u8],
+    files: &mut F,
+    sections: &mut Vec<u8>,
+    register: &mut Vec<u8>,
+) -> Result<FileReported, AllocError>
+    requires { shown.now ≡ shown_name (name_seen name) }
+    ensures { IfOk result (λ reported. (given : FileGiven)
+        × IfTells (F.source_state files.old) (λ s. TellsFile telling_given (name_seen name.entry) s (F.source_state files.new) given)
+        × IsReported kind number (asking_of asked.entry.now) given sections.old.items sections.new.items
+        register.old.items register.new.items reported) }
+{
+    match read_whole(alloc, files, name.path) {
+        Ok(file) => push_reviewed(
+            alloc, kind, number, asked, shown, &file, sections, register,
+        ),
+        Err(fault) => {
+            let cause = files.unread_cause(name.path);
+            push_unread(number, shown, fault, cause, sections, register)
+        }
     }
 }
 
@@ -135,29 +176,18 @@ fn tell_file<F: Files>(
     kind: FileKind,
     number: u64,
     asked: &ReviewOptions<'_>,
-    name: &str,
+    name: FileName<'_>,
     files: &mut F,
     sections: &mut Vec<u8>,
     register: &mut Vec<u8>,
 ) -> Result<FileReported, AllocError>
     ensures { IfOk result (λ reported. (given : FileGiven)
-        × IfTells (F.source_state files.old) (λ s. TellsFile telling_given name.now s (F.source_state files.new) given)
+        × IfTells (F.source_state files.old) (λ s. TellsFile telling_given (name_seen name.entry) s (F.source_state files.new) given)
         × IsReported kind number (asking_of asked.entry.now) given sections.old.items sections.new.items
         register.old.items register.new.items reported) }
 {
-    match read_whole(alloc, files, name) {
-        Ok(file) => push_reviewed(
-            alloc,
-            kind,
-            number,
-            asked,
-            name.as_bytes(),
-            &file,
-            sections,
-            register,
-        ),
-        Err(fault) => push_unread(number, name.as_bytes(), fault, sections, register),
-    }
+    let shown = shown_name(alloc, name)?;
+    tell_shown(alloc, kind, number, asked, name, &shown, files, sections, register)
 }
 
 /// What the files of these names have on the page, one after the other. In memory are the marked text
@@ -166,17 +196,18 @@ fn tell_files<F: Files>(
     alloc: Global,
     kind: ReviewKind,
     asked: &ReviewOptions<'_>,
-    names: &[&str],
+    names: ListedNames<'_>,
     files: &mut F,
 ) -> Result<PageParts, AllocError>
     ensures { IfTells (F.source_state files.old) (λ s. IfOk result (λ parts.
-        PageReported kind (asking_of asked.entry.now) (map (λ name. name.now) names.now) s
+        PageReported kind (asking_of asked.entry.now) (names_seen names.entry) s
         (F.source_state files.new) (parts_seen parts))) }
 {
     let mut sections = Vec::new(alloc);
     let mut register = Vec::new(alloc);
     let mut total = NOTHING;
-    for name in names {
+    for word in names.words {
+        let name = names.naming.name_of(word);
         let reported = tell_file(
             alloc,
             page_kind(kind),
@@ -243,11 +274,11 @@ fn make_page<F: Files>(
     failing: &[Code],
     rule: &[u8],
     asked: &ReviewOptions<'_>,
-    names: &[&str],
+    names: ListedNames<'_>,
     files: &mut F,
 ) -> Result<MadePage, AllocError>
     ensures { IfTells (F.source_state files.old) (λ s. IfOk result (λ made.
-        ReviewsPage title.now kind failing.now rule.now (asking_of asked.entry.now) (map (λ name. name.now) names.now) s
+        ReviewsPage title.now kind failing.now rule.now (asking_of asked.entry.now) (names_seen names.entry) s
         (F.source_state files.new) (made_response made))) }
 {
     let parts = tell_files(alloc, kind, asked, names, files)?;
@@ -329,14 +360,14 @@ pub fn review_page<F: Files, W: Sink>(
     failing: &[Code],
     rule: &[u8],
     asked: &ReviewOptions<'_>,
-    names: &[&str],
+    names: ListedNames<'_>,
     files: &mut F,
     writer: &mut W,
 ) -> u8
     requires { NoneFailed (W.account writer.old) }
     ensures { IfTells (F.source_state files.old) (λ s. WritesAnswer
         (ReviewsPage title.now kind failing.now rule.now (asking_of asked.entry.now)
-        (map (λ name. name.now) names.now) s (F.source_state files.new))
+        (names_seen names.entry) s (F.source_state files.new))
         (W.account writer.old) (W.account writer.new) result) }
 {
     match make_page(alloc, title, kind, failing, rule, asked, names, files) {

@@ -20,7 +20,7 @@ use crate::printing::{put_no_memory, put_whole};
 use crate::review::{ReviewKind, kind_name};
 use crate::sink::Sink;
 use sha2::{Digest, Sha256};
-use ssh_files::ReadError;
+use ssh_files::{ReadError, UnreadCause};
 use ssh_findings::ReviewOptions;
 use ssh_review::{
     Counts, FileFault, Form, LineRecords, RecordForm, Records, Show, Total, push_end, review_fault,
@@ -69,16 +69,16 @@ fn push_shown_end(
     show: Show,
     form: Form,
     out: &mut Vec<u8>,
-    name: &[u8],
+    head: &[u8],
     counts: Counts,
     file: &[u8],
 ) -> Result<(), AllocError>
     ensures { OnOk result (out.new.items ≡ out.old.items
-        ++ shown_end show (end_line form name.now counts (sha256 file.now))) }
+        ++ shown_end show (end_line form head.now counts (sha256 file.now))) }
 {
     if show.shows_end() {
         let digest = Sha256::digest(file);
-        push_end(alloc, form, out, name, counts, &digest)?;
+        push_end(alloc, form, out, head, counts, &digest)?;
     }
     Ok(())
 }
@@ -90,7 +90,7 @@ pub(crate) fn put_review<L: LineRecords + Drop, W: Sink>(
     show: Show,
     form: Form,
     asked: &ReviewOptions<'_>,
-    name: &[u8],
+    head: &[u8],
     file: &[u8],
     begun: Records<'_, L>,
     writer: &mut W,
@@ -98,8 +98,8 @@ pub(crate) fn put_review<L: LineRecords + Drop, W: Sink>(
     requires { NoneFailed (W.account writer.old) }
     ensures failed { FailedIfStopped result (W.account writer.new) }
     ensures put { (text : List ℕ) (all : KeyCountsValue)
-        → HasLeft L.tells show (AsLines form) (asking_of asked.entry.now) name.now file.now text all begun.entry
-        → TextPut (text ++ shown_end show (end_line form name.now all.counts (sha256 file.now)))
+        → HasLeft L.tells show (AsLines form) (asking_of asked.entry.now) head.now file.now text all begun.entry
+        → TextPut (text ++ shown_end show (end_line form head.now all.counts (sha256 file.now)))
         (record { counts = all.counts; stands = all.stands; fault = None })
         (W.account writer.old) (W.account writer.new) result }
 {
@@ -110,14 +110,14 @@ pub(crate) fn put_review<L: LineRecords + Drop, W: Sink>(
         show,
         RecordForm::AsLines(form),
         asked,
-        name,
+        head,
         &mut out,
     )? {
         put_lines(writer, &out)?;
         out.clear();
     }
     let reported = records.reported();
-    push_shown_end(alloc, show, form, &mut out, name, reported.counts, file)?;
+    push_shown_end(alloc, show, form, &mut out, head, reported.counts, file)?;
     put_lines(writer, &out)?;
     Ok(FileReported {
         counts: reported.counts,
@@ -130,17 +130,17 @@ pub(crate) fn put_review<L: LineRecords + Drop, W: Sink>(
 fn put_fault_end<W: Sink>(
     alloc: Global,
     form: Form,
-    name: &[u8],
+    head: &[u8],
     fault: FileFault,
     writer: &mut W,
 ) -> Result<FileReported, Stop>
     requires { NoneFailed (W.account writer.old) }
     ensures failed { FailedIfStopped result (W.account writer.new) }
-    ensures put { TextPut (fault_review form name.now fault).text
-        (review_kept (fault_review form name.now fault)) (W.account writer.old) (W.account writer.new)
+    ensures put { TextPut (fault_review form head.now fault).text
+        (review_kept (fault_review form head.now fault)) (W.account writer.old) (W.account writer.new)
         result }
 {
-    let reviewed = review_fault(alloc, form, name, fault)?;
+    let reviewed = review_fault(alloc, form, head, fault)?;
     put_lines(writer, &reviewed.text)?;
     Ok(FileReported {
         counts: Counts::NONE,
@@ -149,22 +149,23 @@ fn put_fault_end<W: Sink>(
     })
 }
 
-/// Writes the end of a file whose bytes could not be had.
+/// Writes the end of a file whose bytes could not be had, and why the system did not give them.
 pub(crate) fn put_unread<W: Sink>(
     alloc: Global,
     form: Form,
-    name: &[u8],
+    head: &[u8],
     fault: ReadError,
+    cause: UnreadCause,
     writer: &mut W,
 ) -> Result<FileReported, Stop>
     requires { NoneFailed (W.account writer.old) }
     ensures failed { FailedIfStopped result (W.account writer.new) }
-    ensures put { UnreadPut form name.now fault (W.account writer.old) (W.account writer.new) result }
+    ensures put { UnreadPut form head.now fault cause (W.account writer.old) (W.account writer.new) result }
 {
     match fault {
         ReadError::Memory => Err(Stop::Memory),
-        ReadError::TooLong => put_fault_end(alloc, form, name, FileFault::TooLong, writer),
-        _ => put_fault_end(alloc, form, name, FileFault::Unread, writer),
+        ReadError::TooLong => put_fault_end(alloc, form, head, FileFault::TooLong, writer),
+        _ => put_fault_end(alloc, form, head, FileFault::Unread(cause), writer),
     }
 }
 

@@ -115,7 +115,7 @@ const TRUSTS: [OptionRow; 7] = [
     (ArgName::Form, Optional),
 ];
 
-const REVIEW: [OptionRow; 10] = [
+const REVIEW: [OptionRow; 11] = [
     (ArgName::Kind, Required),
     (ArgName::Now, Required),
     (ArgName::Key, Optional),
@@ -126,10 +126,11 @@ const REVIEW: [OptionRow; 10] = [
     (ArgName::Show, Optional),
     (ArgName::Form, Optional),
     (ArgName::Title, Optional),
+    (ArgName::Labels, Optional),
 ];
 
 /// The same with the list of names, which is read before the words are.
-const REPORTED_REVIEW: [OptionRow; 11] = [
+const REPORTED_REVIEW: [OptionRow; 12] = [
     (ArgName::Kind, Required),
     (ArgName::Now, Required),
     (ArgName::Key, Optional),
@@ -140,6 +141,7 @@ const REPORTED_REVIEW: [OptionRow; 11] = [
     (ArgName::Show, Optional),
     (ArgName::Form, Optional),
     (ArgName::Title, Optional),
+    (ArgName::Labels, Optional),
     (ArgName::FilesFrom, Optional),
 ];
 

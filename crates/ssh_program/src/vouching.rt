@@ -16,7 +16,7 @@ ghost use Rattle.ssh_print.specs.SshsigText.{sshsig_response};
 
 use crate::audit::unread;
 use crate::sshsig::answer_one;
-use ssh_files::{Files, Found, seek_vouched};
+use ssh_files::{Files, Found, UnreadCause, seek_vouched};
 use ssh_offers::Signed;
 use ssh_print::{Response, sshsig_response, vouch_fault};
 use std::alloc::{AllocError, Global};
@@ -91,6 +91,14 @@ impl Files for MemoryFile<'_> {
 
     fn is_regular(&self, _name: &str) -> bool {
         true
+    }
+
+    fn unread_cause(&self, name: &str) -> UnreadCause {
+        if name == "-" || name == MEMORY_NAME {
+            UnreadCause::Other
+        } else {
+            UnreadCause::NotFound
+        }
     }
 
     fn read_chosen(&mut self, buf: &mut [u8]) -> io::Result<usize> {

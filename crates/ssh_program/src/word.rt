@@ -109,7 +109,7 @@ pub fn in_turn<'a>(alloc: Global, words: &[&'a str]) -> Result<Vec<Word<'a>>, Al
     ensures { IfOk result (λ turn. map word_seen turn.items
         ≡ in_turn (map (λ word. word.now) words.entry.now)) }
 {
-    let mut turn = Vec::new(alloc);
+    let mut turn = Vec::with_capacity(alloc, words.len())?;
     let mut before: &'a [u8] = b"".as_slice();
     let mut place = Place::Open;
     for word in words {

@@ -1,11 +1,12 @@
 //! Files in memory whose reads can fail, and the arguments and keys of the tests.
 
-ghost use Rattle.std.specs.Prelude.{Some, None, refl, if◌then◌else◌, option_map, Option, List, ℕ};
+ghost use Rattle.std.specs.Prelude.{Some, None, Ok, Err, refl, if◌then◌else◌, option_map, Option, List, ℕ};
 ghost use Rattle.std.specs.Str.{bytes_eq};
+ghost use Rattle.ssh_files.specs.declared.files.UnreadCause.TheVariants.{NotFound};
 ghost use Rattle.ssh_files.specs.SourceState.{SourceState, Chosen, nothing, standard_input, named_file, left_of};
 ghost use Rattle.ssh_program_tests.specs.declared.source.Place.TheVariants.{Nowhere, Input, File};
 
-use ssh_files::Files;
+use ssh_files::{Files, UnreadCause};
 use std::alloc::Global;
 use std::io::{self, Error, ErrorKind, Read};
 use std::test::Fail;
@@ -84,7 +85,7 @@ impl<'a> OneFile<'a> {
 
 impl Read for OneFile<'_> {
     ghost remaining = { λ m. Some (left_of (record {
-      named = λ name. if bytes_eq name m.name.now then Some m.bytes.now else None;
+      named = λ name. if bytes_eq name m.name.now then Ok m.bytes.now else Err NotFound;
       input = m.input.now;
       chosen = elim m.place [ Nowhere ↦ nothing | Input ↦ standard_input | File ↦ named_file m.name.now m.left.now ];
       choices = m.choices;
@@ -99,7 +100,7 @@ impl Read for OneFile<'_> {
 
 impl Files for OneFile<'_> {
     ghost source_state = { λ m. Some (record {
-      named = λ name. if bytes_eq name m.name.now then Some m.bytes.now else None;
+      named = λ name. if bytes_eq name m.name.now then Ok m.bytes.now else Err NotFound;
       input = m.input.now;
       chosen = elim m.place [ Nowhere ↦ nothing | Input ↦ standard_input | File ↦ named_file m.name.now m.left.now ];
       choices = m.choices;
@@ -126,6 +127,14 @@ impl Files for OneFile<'_> {
 
     fn is_regular(&self, name: &str) -> bool {
         name == self.name
+    }
+
+    fn unread_cause(&self, name: &str) -> UnreadCause {
+        if name == "-" || name == self.name {
+            UnreadCause::Other
+        } else {
+            UnreadCause::NotFound
+        }
     }
 
     fn read_chosen(&mut self, buf: &mut [u8]) -> io::Result<usize> {
@@ -162,7 +171,7 @@ impl<'a> FailsAt<'a> {
 
 impl Read for FailsAt<'_> {
     ghost remaining = { λ m. Some (left_of (record {
-      named = λ name. if bytes_eq name m.source.name.now then Some m.source.bytes.now else None;
+      named = λ name. if bytes_eq name m.source.name.now then Ok m.source.bytes.now else Err NotFound;
       input = m.source.input.now;
       chosen = elim m.source.place [ Nowhere ↦ nothing | Input ↦ standard_input | File ↦ named_file m.source.name.now m.source.left.now ];
       choices = m.source.choices;
@@ -177,7 +186,7 @@ impl Read for FailsAt<'_> {
 
 impl Files for FailsAt<'_> {
     ghost source_state = { λ m. Some (record {
-      named = λ name. if bytes_eq name m.source.name.now then Some m.source.bytes.now else None;
+      named = λ name. if bytes_eq name m.source.name.now then Ok m.source.bytes.now else Err NotFound;
       input = m.source.input.now;
       chosen = elim m.source.place [ Nowhere ↦ nothing | Input ↦ standard_input | File ↦ named_file m.source.name.now m.source.left.now ];
       choices = m.source.choices;
@@ -193,6 +202,10 @@ impl Files for FailsAt<'_> {
 
     fn is_regular(&self, name: &str) -> bool {
         self.source.is_regular(name)
+    }
+
+    fn unread_cause(&self, name: &str) -> UnreadCause {
+        self.source.unread_cause(name)
     }
 
     fn read_chosen(&mut self, buf: &mut [u8]) -> io::Result<usize> {
@@ -242,6 +255,10 @@ impl Files for Sips<'_> {
 
     fn is_regular(&self, name: &str) -> bool {
         self.source.is_regular(name)
+    }
+
+    fn unread_cause(&self, name: &str) -> UnreadCause {
+        self.source.unread_cause(name)
     }
 
     fn read_chosen(&mut self, buf: &mut [u8]) -> io::Result<usize> {

@@ -8,16 +8,18 @@ use Rattle.ssh_review.proofs.WordLemmas.{code-printable as code_word-printable}
 use Rattle.ssh_print.specs.AnswerText.{sentence}
 use Rattle.ssh_print.specs.Table.{answers, bodies, certificates, faults, fields, findings, keys, lines, reasons, row_of, table}
 use Rattle.ssh_review.specs.Asked.{Asked, asked_fields, program_field, total_head}
-use Rattle.ssh_review.specs.Ends.{asked_by}
+use Rattle.ssh_files.specs.declared.files.UnreadCause.{UnreadCause}
+use Rattle.ssh_files.specs.declared.files.UnreadCause.TheVariants.{IsADirectory, NotFound, Other, PermissionDenied}
+use Rattle.ssh_review.specs.Ends.{asked_by, cause_words}
 use Rattle.ssh_review.specs.FaultCounts.{faults_object}
 use Rattle.ssh_review.specs.declared.fault_counts.FaultCounts.{FaultCounts}
 use Rattle.ssh_review.specs.Fields.{array_field}
-use Rattle.ssh_review.specs.EndObjects.{code_element, counts_fields, end_head, end_object, fault_object, review_fields, total_counts, total_object}
+use Rattle.ssh_review.specs.EndObjects.{code_element, counts_fields, end_head, end_object, fault_object, review_fields, total_counts, total_object, why_field}
 
-head-printable : (name : List ℕ) → AreBytes name → ArePrintable (end_head name)
+head-printable : (name : List ℕ) → ArePrintable name → ArePrintable (end_head name)
 unfolding end_head
 head-printable name h =
-    join (join (word (codes "{\"file\":") refl) (string-printable name h)) (said-printable (codes "what") refl (word (codes "end") refl))
+    join h (said-printable (codes "what") refl (word (codes "end") refl))
 
 counts-printable : (c : Counts) → ArePrintable (counts_fields c)
 unfolding counts_fields
@@ -27,22 +29,33 @@ counts-printable c =
     let unreadable = number-printable (codes "unreadable") c.unreadable refl in
     join (join (join lines keys) unreadable) (number-printable (codes "findings") c.findings refl)
 
-pub end-line : (name : List ℕ) (counts : Counts) (digest : List ℕ) → AreBytes name → AreBytes digest → is_line (end_object name counts digest) ≡ true
+pub end-line : (name : List ℕ) (counts : Counts) (digest : List ℕ) → ArePrintable name → AreBytes digest → is_line (end_object name counts digest) ≡ true
 unfolding end_object
 end-line name counts digest h k =
     let hex = said-printable (codes "sha256") refl (hex-printable digest k) in
-    line-from (codes "}\n") (join (join (join (head-printable name h) (counts-printable counts)) hex) (null-printable (codes "fault") refl)) refl
+    line-from (codes "}\n") (join (join (join (join (head-printable name h) (counts-printable counts)) hex) (null-printable (codes "fault") refl)) (null-printable (codes "why") refl)) refl
 
 pub code-printable : (fault : FileFault) → ArePrintable (fault_code fault)
-code-printable Unread = word (codes "A9") refl
+code-printable (Unread cause) = word (codes "A9") refl
 code-printable TooLong = word (codes "A7") refl
 
-pub fault-line : (name : List ℕ) (fault : FileFault) → AreBytes name → is_line (fault_object name fault) ≡ true
+pub words-printable : (cause : UnreadCause) → ArePrintable (cause_words cause)
+words-printable NotFound = word (codes "not found") refl
+words-printable PermissionDenied = word (codes "no permission") refl
+words-printable IsADirectory = word (codes "a folder") refl
+words-printable Other = word (codes "not readable") refl
+
+why-printable : (fault : FileFault) → ArePrintable (why_field fault)
+unfolding why_field
+why-printable (Unread cause) = said-printable (codes "why") refl (words-printable cause)
+why-printable TooLong = null-printable (codes "why") refl
+
+pub fault-line : (name : List ℕ) (fault : FileFault) → ArePrintable name → is_line (fault_object name fault) ≡ true
 unfolding fault_object
 fault-line name fault h =
     let digest = null-printable (codes "sha256") refl in
     let code = said-printable (codes "fault") refl (code-printable fault) in
-    line-from (codes "}\n") (join (join (join (head-printable name h) (counts-printable no_counts)) digest) code) refl
+    line-from (codes "}\n") (join (join (join (join (head-printable name h) (counts-printable no_counts)) digest) code) (why-printable fault)) refl
 
 -- ---- the total
 
@@ -78,8 +91,8 @@ review-printable kind asking h =
 faults-printable : (counts : FaultCounts) → ArePrintable (faults_object counts)
 unfolding faults_object
 faults-printable counts =
-    let long = count-printable (fault_code TooLong) counts.too_long refl in
-    object-printable (codes "faults_by_code") _ refl (join long (count-printable (fault_code Unread) counts.unread refl))
+    let long = count-printable (codes "A7") counts.too_long refl in
+    object-printable (codes "faults_by_code") _ refl (join long (count-printable (codes "A9") counts.unread refl))
 
 total-counts-printable : (t : Total) → ArePrintable (total_counts t)
 unfolding total_counts

@@ -15,7 +15,7 @@ fields-printable f h =
     let key = key-printable f.kind f.bits f.fingerprint (bytes-from_printable h.fingerprint) in
     join (join key (text-printable (codes "comment") f.comment refl h.comment)) (text-printable (codes "names") f.names refl h.names)
 
-pub entry-line : (name : List ℕ) (n : ℕ) (f : HostFacts) (found : List HostFinding) → AreBytes name → IsOfBytes f → is_line (host_entry_object name n f found) ≡ true
+pub entry-line : (name : List ℕ) (n : ℕ) (f : HostFacts) (found : List HostFinding) → ArePrintable name → IsOfBytes f → is_line (host_entry_object name n f found) ≡ true
 unfolding host_entry_object
 entry-line name n f found h k =
     rows-end-line host_row host-texts found (join (head-printable name n h (is-printable f.is_authority)) (fields-printable f k))
@@ -34,14 +34,14 @@ names-printable : (f : RevocationFacts) → AreBytes f.names → ArePrintable (r
 unfolding revoked_names_fields
 names-printable f h = join (null-printable (codes "comment") refl) (text-printable (codes "names") f.names refl h)
 
-pub revoked-line : (name : List ℕ) (n : ℕ) (bytes : List ℕ) (f : RevocationFacts) (found : List HostFinding) → AreBytes name → AreBytes f.names
+pub revoked-line : (name : List ℕ) (n : ℕ) (bytes : List ℕ) (f : RevocationFacts) (found : List HostFinding) → ArePrintable name → AreBytes f.names
     → is_line (revoked_object name n bytes f found) ≡ true
 unfolding revoked_object
 revoked-line name n bytes f found h k =
     let head = head-printable name n h (word (codes "revoked") refl) in
     rows-end-line host_row host-texts found (join (join head (revoked-printable bytes)) (names-printable f k))
 
-pub bare-line : (name : List ℕ) (n : ℕ) (is : List ℕ) (held : Option HeldKey) (found : List HostFinding) → AreBytes name → are_printable is ≡ true → IsHeldOfBytes held
+pub bare-line : (name : List ℕ) (n : ℕ) (is : List ℕ) (held : Option HeldKey) (found : List HostFinding) → ArePrintable name → are_printable is ≡ true → IsHeldOfBytes held
     → is_line (bare_object name n is held found) ≡ true
 unfolding bare_object
 bare-line name n is held found h k p =

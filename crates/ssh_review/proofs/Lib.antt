@@ -15,6 +15,7 @@ pub mod UnquotedLemmas
 pub mod PrintableLemmas
 pub mod WordLemmas
 pub mod FieldLemmas
+pub mod FileNameLemmas
 pub mod FoundLemmas
 pub mod RowLemmas
 pub mod ObjectLemmas

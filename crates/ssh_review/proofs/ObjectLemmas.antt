@@ -8,11 +8,10 @@ use Rattle.ssh_review.proofs.RowLemmas.{auth-texts, rows-end-line}
 
 -- ---- records
 
-pub head-printable : {is : List ℕ} (name : List ℕ) (n : ℕ) → AreBytes name → ArePrintable is → ArePrintable (object_head name n is)
+pub head-printable : {is : List ℕ} (name : List ℕ) (n : ℕ) → ArePrintable name → ArePrintable is → ArePrintable (object_head name n is)
 unfolding object_head
 head-printable name n h k =
-    let file = join (word (codes "{\"file\":") refl) (string-printable name h) in
-    join (join file (number-printable (codes "line") n refl)) (said-printable (codes "what") refl k)
+    join (join h (number-printable (codes "line") n refl)) (said-printable (codes "what") refl k)
 
 pub is-printable : (b : Bool) → ArePrintable (is_word b)
 is-printable true = word (codes "authority") refl
@@ -39,7 +38,7 @@ grant-printable f h =
     join (join (join (join rights command) from) principals) (any-moment-printable (codes "expires") f.until refl)
 
 pub entry-line : (name : List ℕ) (n : ℕ) (f : Facts) (options : List AuthOption) (shadowed_by : Option ℕ) (lets_in : Bool) (found : List Finding)
-    → AreBytes name → IsOfBytes f → HaveByteValues options → is_line (entry_object name n f options shadowed_by lets_in found) ≡ true
+    → ArePrintable name → IsOfBytes f → HaveByteValues options → is_line (entry_object name n f options shadowed_by lets_in found) ≡ true
 unfolding entry_object
 entry-line name n f options shadowed_by lets_in found h k m =
     let head = head-printable name n h (is-printable f.is_authority) in
@@ -56,7 +55,7 @@ empty-printable : ArePrintable empty_fields
 unfolding empty_fields
 empty-printable = record { all = refl }
 
-pub unreadable-line : (name : List ℕ) (n : ℕ) (held : Option HeldKey) (found : List Finding) → AreBytes name → IsHeldOfBytes held
+pub unreadable-line : (name : List ℕ) (n : ℕ) (held : Option HeldKey) (found : List Finding) → ArePrintable name → IsHeldOfBytes held
     → is_line (unreadable_object name n held found) ≡ true
 unfolding unreadable_object
 unreadable-line name n held found h k =

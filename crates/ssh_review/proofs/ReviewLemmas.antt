@@ -1,5 +1,5 @@
 -- A review is of printable bytes and LFs, in each form.
-use Rattle.ssh_review.proofs.Imports.{◌≡◌, ◌+◌, ℕ, nat_lt, Bool, true, false, cond, List, [], ◌∷◌, ◌++◌, length, refl, Option, Some, None, codes, option_map, AllByRecursion, TimeZone, file_limit, lines_of, numbered, PublicKey, key_blob, AuthLine, Blank, Comment, Entry, Unreadable, AuthEntry, auth_line, Asking, Held, held_key, AreBytes, AreBytesIfAny, pos, are_printable, Counts, FileFault, TooLong, Total, Form, AsLines, Text, Json, count_text, counts_text, end_line, file_fault_line, total_line, counts_of, held_by_line, key_reported, line_findings, line_record, records_of, shadow_line, auth_review, fault_review}
+use Rattle.ssh_review.proofs.Imports.{◌≡◌, ◌+◌, ℕ, nat_lt, Bool, true, false, cond, List, [], ◌∷◌, ◌++◌, length, refl, Option, Some, None, codes, option_map, AllByRecursion, TimeZone, file_limit, lines_of, numbered, PublicKey, key_blob, AuthLine, Blank, Comment, Entry, Unreadable, AuthEntry, auth_line, Asking, Held, held_key, AreBytes, AreBytesIfAny, pos, are_printable, Counts, FileFault, TooLong, Unread, Total, Form, AsLines, Text, Json, count_text, counts_text, end_line, file_fault_line, total_line, counts_of, held_by_line, key_reported, line_findings, line_record, records_of, shadow_line, auth_review, fault_review}
 use Rattle.sha2.specs.Sha256.{sha256}
 use Rattle.ssh_keys.specs.Fingerprint.{digest_text_of, fingerprint_of}
 use Rattle.ssh_findings.specs.Facts.{facts_of}
@@ -13,8 +13,8 @@ use Rattle.ssh_review.proofs.ByteLemmas.{entry-facts, held-bytes, lines-bytes}
 use Rattle.ssh_review.proofs.DigestLemmas.{base64-printable, digest-bytes}
 use Rattle.ssh_review.proofs.DateTextLemmas.{moment-printable}
 use Rattle.ssh_review.specs.Asked.{Asked, asked_words, zone_words}
-use Rattle.ssh_review.specs.Ends.{asked_by}
-use Rattle.ssh_review.proofs.EndLemmas.{code-printable, end-line, fault-line, total-line}
+use Rattle.ssh_review.specs.Ends.{asked_by, why_text}
+use Rattle.ssh_review.proofs.EndLemmas.{code-printable, end-line, fault-line, total-line, words-printable}
 use Rattle.ssh_review.proofs.FoundLemmas.{found-shown}
 use Rattle.ssh_review.proofs.ShownLemmas.{AreShown, add, from-line, seen, show}
 use Rattle.ssh_review.proofs.TextLemmas.{IsHeldPrintable, entry-shown, unreadable-shown}
@@ -34,7 +34,7 @@ held-printable None = tt
 held-printable (Some key) = fingerprint-printable key
 
 record-by : (form : Form) (asking : Asking) (name : List ℕ) (earlier : List Held) (n : ℕ) (line : List ℕ) (said : AuthLine)
-    → AreBytes name → AreBytes line → auth_line line ≡ said → AreShown (line_record (AsLines form) asking name earlier (n, line) said)
+    → ArePrintable name → AreBytes line → auth_line line ≡ said → AreShown (line_record (AsLines form) asking name earlier (n, line) said)
 record-by form asking name earlier n line Blank h k is = show [] refl
 record-by form asking name earlier n line Comment h k is = show [] refl
 record-by Text asking name earlier n line (Entry e) h k is =
@@ -48,7 +48,7 @@ record-by Json asking name earlier n line (Unreadable cause) h k is =
     from-line (unreadable-line name n (key_reported line) (line_findings asking earlier (Unreadable cause)) h (held-bytes (held_key line)))
 
 records-shown : (form : Form) (asking : Asking) (name : List ℕ) (earlier : List Held) (n : ℕ) (lines : List (List ℕ))
-    → AreBytes name → AllByRecursion AreBytes lines → AreShown (records_of (AsLines form) asking name earlier (numbered n lines))
+    → ArePrintable name → AllByRecursion AreBytes lines → AreShown (records_of (AsLines form) asking name earlier (numbered n lines))
 records-shown form asking name earlier n [] h k = show [] refl
 records-shown form asking name earlier n (line ∷ lines) h k =
     add (record-by form asking name earlier n line (auth_line line) h k.0 refl)
@@ -66,16 +66,20 @@ counts-printable c =
     let unreadable = count-printable c.unreadable (codes " unreadable, ") refl in
     join (join (join lines keys) unreadable) (count-printable c.findings (codes " findings") refl)
 
-pub end-shown : (form : Form) (name : List ℕ) (counts : Counts) (digest : List ℕ) → AreBytes name → AreBytes digest → AreShown (end_line form name counts digest)
+pub end-shown : (form : Form) (name : List ℕ) (counts : Counts) (digest : List ℕ) → ArePrintable name → AreBytes digest → AreShown (end_line form name counts digest)
 end-shown Text name counts digest h k =
-    let named = join (escaped-printable name h) (word (codes ": ") refl) in
+    let named = join h (word (codes ": ") refl) in
     let counted = join (join named (counts-printable counts)) (word (codes ", sha256 ") refl) in
     add (seen (join counted (hex-printable digest k))) (show (codes "\n") refl)
 end-shown Json name counts digest h k = from-line (end-line name counts digest h k)
 
-pub fault-shown : (form : Form) (name : List ℕ) (fault : FileFault) → AreBytes name → AreShown (file_fault_line form name fault)
+why-words : (fault : FileFault) → ArePrintable (why_text fault)
+why-words (Unread cause) = join (word (codes ": ") refl) (words-printable cause)
+why-words TooLong = word [] refl
+
+pub fault-shown : (form : Form) (name : List ℕ) (fault : FileFault) → ArePrintable name → AreShown (file_fault_line form name fault)
 fault-shown Text name fault h =
-    add (seen (join (join (escaped-printable name h) (word (codes ": fault ") refl)) (code-printable fault))) (show (codes "\n") refl)
+    add (seen (join (join (join h (word (codes ": fault ") refl)) (code-printable fault)) (why-words fault))) (show (codes "\n") refl)
 fault-shown Json name fault h = from-line (fault-line name fault h)
 
 asked-words-printable : (a : Asked) → AreBytesIfAny a.zone → ArePrintable (asked_words a)
@@ -96,13 +100,13 @@ total-shown Json kind zone asking t h k = from-line (total-line kind zone asking
 
 -- ---- reviews
 
-whole-shown : (form : Form) (asking : Asking) (name file : List ℕ) → AreBytes name → AreBytes file → AreShown (whole_review form asking name file).text
+whole-shown : (form : Form) (asking : Asking) (name file : List ℕ) → ArePrintable name → AreBytes file → AreShown (whole_review form asking name file).text
 unfolding whole_review
 whole-shown form asking name file h k =
     add (records-shown form asking name [] 1 (lines_of file) h (lines-bytes file k))
     (end-shown form name (counts_of asking [] (numbered 1 (lines_of file))) (sha256 file) h (digest-bytes file))
 
-pub review-shown : (form : Form) (asking : Asking) (name file : List ℕ) → AreBytes name → AreBytes file → AreShown (auth_review form asking name file).text
+pub review-shown : (form : Form) (asking : Asking) (name file : List ℕ) → ArePrintable name → AreBytes file → AreShown (auth_review form asking name file).text
 review-shown form asking name file h k = go (nat_lt file_limit (length file))
   where
     go : (b : Bool) → AreShown (cond b (fault_review form name TooLong) (whole_review form asking name file)).text

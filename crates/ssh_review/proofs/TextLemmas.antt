@@ -11,9 +11,9 @@ use Rattle.ssh_review.proofs.ShownLemmas.{AreShown, add, seen, show}
 
 -- ---- parts of a record
 
-pub place-printable : (name : List ℕ) (n : ℕ) → AreBytes name → ArePrintable (place_text name n)
+pub place-printable : (name : List ℕ) (n : ℕ) → ArePrintable name → ArePrintable (place_text name n)
 place-printable name n h =
-    join (join (join (escaped-printable name h) (word (codes ":") refl)) (decimal-printable n)) (word (codes ": ") refl)
+    join (join (join h (word (codes ":") refl)) (decimal-printable n)) (word (codes ": ") refl)
 
 pub role-printable : (b : Bool) → ArePrintable (role_word b)
 role-printable true = word (codes "authority ") refl
@@ -85,7 +85,7 @@ limits-shown f h =
 
 -- ---- records
 
-pub entry-shown : (name : List ℕ) (n : ℕ) (f : Facts) (found : List Finding) → AreBytes name → IsOfBytes f → ArePrintable f.fingerprint → AreShown (entry_text name n f found)
+pub entry-shown : (name : List ℕ) (n : ℕ) (f : Facts) (found : List Finding) → ArePrintable name → IsOfBytes f → ArePrintable f.fingerprint → AreShown (entry_text name n f found)
 unfolding entry_text
 entry-shown name n f found h k p =
     let head = add (seen (place-printable name n h)) (head-shown f p k.comment) in
@@ -100,7 +100,7 @@ pub held-printable : (held : Option HeldKey) → IsHeldPrintable held → ArePri
 held-printable None h = word [] refl
 held-printable (Some held) h = join (word (codes " ") refl) (key-printable held.kind held.bits held.fingerprint h)
 
-pub unreadable-shown : (name : List ℕ) (n : ℕ) (held : Option HeldKey) (found : List Finding) → AreBytes name → IsHeldPrintable held
+pub unreadable-shown : (name : List ℕ) (n : ℕ) (held : Option HeldKey) (found : List Finding) → ArePrintable name → IsHeldPrintable held
     → AreShown (unreadable_text name n held found)
 unfolding unreadable_text
 unreadable-shown name n held found h k =

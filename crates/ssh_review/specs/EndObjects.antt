@@ -14,10 +14,11 @@ use Rattle.ssh_review.specs.declared.end.Counts.{Counts}
 use Rattle.ssh_review.specs.declared.end.FileFault.{FileFault}
 use Rattle.ssh_review.specs.declared.end.Total.{Total}
 use Rattle.ssh_review.specs.Counting.{no_counts}
-use Rattle.ssh_review.specs.Ends.{asked_by, fault_code}
+use Rattle.ssh_review.specs.declared.end.FileFault.TheVariants.{TooLong, Unread}
+use Rattle.ssh_review.specs.Ends.{asked_by, cause_words, fault_code}
 
 unfoldable pub end_head : List ℕ → List ℕ
-end_head name = codes "{\"file\":" ++ json_text name ++ text_field (codes "what") (codes "end")
+end_head head = head ++ text_field (codes "what") (codes "end")
 
 unfoldable pub counts_fields : Counts → List ℕ
 counts_fields c =
@@ -27,12 +28,17 @@ counts_fields c =
 -- the end of a file, with the SHA-256 of its bytes
 unfoldable pub end_object : List ℕ → Counts → List ℕ → List ℕ
 end_object name counts digest =
-    end_head name ++ counts_fields counts ++ text_field (codes "sha256") (hex_text digest) ++ null_field (codes "fault") ++ codes "}\n"
+    end_head name ++ counts_fields counts ++ text_field (codes "sha256") (hex_text digest) ++ null_field (codes "fault") ++ null_field (codes "why") ++ codes "}\n"
+
+-- why a file could not be read
+unfoldable pub why_field : FileFault → List ℕ
+why_field (Unread cause) = text_field (codes "why") (cause_words cause)
+why_field TooLong = null_field (codes "why")
 
 -- the end of a file with a fault
 unfoldable pub fault_object : List ℕ → FileFault → List ℕ
 fault_object name fault =
-    end_head name ++ counts_fields no_counts ++ null_field (codes "sha256") ++ text_field (codes "fault") (fault_code fault) ++ codes "}\n"
+    end_head name ++ counts_fields no_counts ++ null_field (codes "sha256") ++ text_field (codes "fault") (fault_code fault) ++ why_field fault ++ codes "}\n"
 
 -- ---- the total
 

@@ -1,6 +1,8 @@
 -- The end of a file and the total, as text (this project's rule).
-use Rattle.std.specs.Prelude.{◌++◌, ℕ, List, Some, codes}
+use Rattle.std.specs.Prelude.{◌++◌, ℕ, List, [], Some, codes}
 use Rattle.std.specs.Fmt.{decimal}
+use Rattle.ssh_files.specs.declared.files.UnreadCause.{UnreadCause}
+use Rattle.ssh_files.specs.declared.files.UnreadCause.TheVariants.{IsADirectory, NotFound, Other, PermissionDenied}
 use Rattle.ssh_findings.specs.Asking.{Asking}
 use Rattle.ssh_print.specs.Texts.{escaped_text, hex_text}
 use Rattle.ssh_review.specs.Asked.{Asked, asked_words}
@@ -21,15 +23,27 @@ counts_text c =
 
 -- the end of a file, with the SHA-256 of its bytes
 abbrev pub end_text : List ℕ → Counts → List ℕ → List ℕ
-end_text name counts digest = escaped_text name ++ codes ": " ++ counts_text counts ++ codes ", sha256 " ++ hex_text digest ++ codes "\n"
+end_text head counts digest = head ++ codes ": " ++ counts_text counts ++ codes ", sha256 " ++ hex_text digest ++ codes "\n"
 
 abbrev pub fault_code : FileFault → List ℕ
-fault_code Unread = codes "A9"
+fault_code (Unread cause) = codes "A9"
 fault_code TooLong = codes "A7"
+
+-- why a file could not be read, in words
+abbrev pub cause_words : UnreadCause → List ℕ
+cause_words NotFound = codes "not found"
+cause_words PermissionDenied = codes "no permission"
+cause_words IsADirectory = codes "a folder"
+cause_words Other = codes "not readable"
+
+-- the same behind the code of a fault
+abbrev pub why_text : FileFault → List ℕ
+why_text (Unread cause) = codes ": " ++ cause_words cause
+why_text TooLong = []
 
 -- the end of a file with a fault
 abbrev pub fault_text : List ℕ → FileFault → List ℕ
-fault_text name fault = escaped_text name ++ codes ": fault " ++ fault_code fault ++ codes "\n"
+fault_text head fault = head ++ codes ": fault " ++ fault_code fault ++ why_text fault ++ codes "\n"
 
 -- when a review was asked, in the time zone of this POSIX rule
 abbrev pub asked_by : List ℕ → Asking → Asked

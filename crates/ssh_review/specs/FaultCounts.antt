@@ -1,7 +1,6 @@
 -- How many files had which fault (this project's rule).
 use Rattle.std.specs.Prelude.{◌++◌, ℕ, List, codes, Option, Some, None}
 use Rattle.ssh_findings.specs.CodeCounts.{sum_within}
-use Rattle.ssh_review.specs.Ends.{fault_code}
 use Rattle.ssh_review.specs.Fields.{count_field, object_field}
 use Rattle.ssh_review.specs.declared.end.FileFault.{FileFault}
 use Rattle.ssh_review.specs.declared.end.FileFault.TheVariants.{Unread, TooLong}
@@ -14,9 +13,9 @@ no_faults = record { too_long = 0; unread = 0 }
 abbrev pub faults_with : FaultCounts → Option FileFault → FaultCounts
 faults_with counts None = counts
 faults_with counts (Some TooLong) = record { too_long = sum_within counts.too_long 1; unread = counts.unread }
-faults_with counts (Some Unread) = record { too_long = counts.too_long; unread = sum_within counts.unread 1 }
+faults_with counts (Some (Unread cause)) = record { too_long = counts.too_long; unread = sum_within counts.unread 1 }
 
 -- as JSON: how many files had each fault, in the order of the codes; none that no file had
 unfoldable pub faults_object : FaultCounts → List ℕ
 faults_object counts =
-    object_field (codes "faults_by_code") (count_field (fault_code TooLong) counts.too_long ++ count_field (fault_code Unread) counts.unread)
+    object_field (codes "faults_by_code") (count_field (codes "A7") counts.too_long ++ count_field (codes "A9") counts.unread)

@@ -12,6 +12,7 @@ pub mod Shown
 pub mod Fields
 pub mod Found
 pub mod Asked
+pub mod FileNames
 pub mod Findings
 pub mod OptionsText
 pub mod RightsWords

@@ -15,8 +15,8 @@ use Rattle.ssh_print.specs.Strings.{json_text}
 
 -- the file, the line, and what the line is
 unfoldable pub object_head : List ℕ → ℕ → List ℕ → List ℕ
-object_head name n what =
-    codes "{\"file\":" ++ json_text name ++ number_field (codes "line") n ++ text_field (codes "what") what
+object_head head n what =
+    head ++ number_field (codes "line") n ++ text_field (codes "what") what
 
 abbrev pub is_word : Bool → List ℕ
 is_word is_authority = if is_authority then codes "authority" else codes "key"

@@ -10,6 +10,8 @@ use Rattle.ssh_page.specs.Documents.{Document, marks}
 use Rattle.ssh_page.specs.Files.{ClassesSeen, FileSeen, empty_section, fault_row, fault_section, file_row, section, section_end, section_head}
 use Rattle.ssh_page.specs.RowClasses.{has_authority}
 use Rattle.ssh_review.specs.declared.end.Counts.{Counts}
+use Rattle.ssh_files.specs.declared.files.UnreadCause.{UnreadCause}
+use Rattle.ssh_files.specs.declared.files.UnreadCause.TheVariants.{IsADirectory, NotFound, Other, PermissionDenied}
 use Rattle.ssh_review.specs.declared.end.FileFault.{FileFault}
 use Rattle.ssh_review.specs.declared.end.FileFault.TheVariants.{TooLong, Unread}
 use Rattle.ssh_review.specs.Ends.{fault_code}
@@ -75,10 +77,17 @@ register_row kind number asking name file = file_row number (file_seen kind aski
 
 -- ---- a file that was not
 
--- what its fault means, and what to do
+-- what it means that a file could not be read, and what to do
+abbrev pub cause_means : UnreadCause → List ℕ
+cause_means NotFound = codes "there is no such file: look at its name"
+cause_means PermissionDenied = codes "it may not be read: look at its permissions"
+cause_means IsADirectory = codes "it is a folder: name the files in it"
+cause_means Other = codes "it could not be read: look at the disk"
+
+-- what a fault means, and what to do
 abbrev pub fault_means : FileFault → List ℕ
 fault_means TooLong = codes "it has more than 67,108,864 bytes: split it, or drop comments"
-fault_means Unread = codes "it cannot be read: look at its name and its rights; a folder is not a file"
+fault_means (Unread cause) = cause_means cause
 
 abbrev pub unread_section : ℕ → List ℕ → FileFault → Document
 unread_section number name fault = fault_section number name (fault_code fault) (fault_means fault)

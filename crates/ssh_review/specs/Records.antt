@@ -18,7 +18,7 @@ use Rattle.ssh_review.specs.Findings.{finding_line}
 
 -- the name of the file and the number of the line
 abbrev pub place_text : List ℕ → ℕ → List ℕ
-place_text name number = escaped_text name ++ codes ":" ++ decimal number ++ codes ": "
+place_text head number = head ++ codes ":" ++ decimal number ++ codes ": "
 
 abbrev pub role_word : Bool → List ℕ
 role_word is_authority = if is_authority then codes "authority " else codes "key "

@@ -50,7 +50,7 @@ pub(crate) fn push_entry_line(
 ) -> Result<Counts, AllocError>
     ensures text { OnOk result ((held : List Held) → RemembersEntries earlier.old held
         → out.new.items ≡ out.old.items ++ line_record form (asking_of asked.entry.now)
-        place.entry.now.name.now held (place.entry.now.number, []) (AuthLine.Entry entry.now)) }
+        place.entry.now.head.now held (place.entry.now.number, []) (AuthLine.Entry entry.now)) }
     ensures counts { IfOk result (λ counts. (held : List Held) → RemembersEntries earlier.old held
         → counts ≡ line_counts (asking_of asked.entry.now) held (AuthLine.Entry entry.now)) }
     ensures kept { OnOk result ((held : List Held) → RemembersEntries earlier.old held
@@ -105,7 +105,7 @@ pub(crate) fn push_unreadable_line(
     out: &mut Vec<u8>,
 ) -> Result<Counts, AllocError>
     ensures text { OnOk result (out.new.items ≡ out.old.items ++ line_record form (asking_of asked.entry.now)
-        place.entry.now.name.now [] (place.entry.now.number, line.now) (AuthLine.Unreadable cause)) }
+        place.entry.now.head.now [] (place.entry.now.number, line.now) (AuthLine.Unreadable cause)) }
     ensures counts { IfOk result (λ counts. counts ≡ line_counts (asking_of asked.entry.now)
         [] (AuthLine.Unreadable cause)) }
 {
@@ -144,7 +144,7 @@ fn push_line(
 ) -> Result<Counts, AllocError>
     ensures text { OnOk result ((held : List Held) → RemembersEntries earlier.old held
         → out.new.items ≡ out.old.items ++ line_record form (asking_of asked.entry.now)
-        place.entry.now.name.now held (place.entry.now.number, line.now) (line_seen view.now)) }
+        place.entry.now.head.now held (place.entry.now.number, line.now) (line_seen view.now)) }
     ensures counts { IfOk result (λ counts. (held : List Held) → RemembersEntries earlier.old held
         → counts ≡ line_counts (asking_of asked.entry.now) held (line_seen view.now)) }
     ensures kept { OnOk result ((held : List Held) → RemembersEntries earlier.old held
@@ -187,16 +187,16 @@ impl LineRecords for Earlier {
         })
     }
 
-    ghost ends = { λ x form asking name file line_reports h. h.are_reports };
+    ghost ends = { λ x form asking head file line_reports h. h.are_reports };
 }
 
 /// The review of an `authorized_keys` file of these bytes, before its first record is made: a record
 /// for each entry and each line that cannot be read.
 pub fn auth_records(alloc: Global, file: &[u8]) -> Result<Records<'_, Earlier>, AllocError>
     requires { length file.now ≤ file_limit }
-    ensures { IfOk result (λ r. (show : ShowValue) (form : RecordFormValue) (asking : Asking) (name : List ℕ)
-        → HasLeft AuthTells show form asking name file.now
-        (shown_records show (line_reports_of form asking name [] (numbered 1 (lines_of file.now))))
+    ensures { IfOk result (λ r. (show : ShowValue) (form : RecordFormValue) (asking : Asking) (head : List ℕ)
+        → HasLeft AuthTells show form asking head file.now
+        (shown_records show (line_reports_of form asking head [] (numbered 1 (lines_of file.now))))
         (of_all (counts_of asking [] (numbered 1 (lines_of file.now)))) r) }
 {
     let earlier = Earlier::new(alloc);
@@ -209,16 +209,16 @@ pub fn push_end(
     alloc: Global,
     form: Form,
     out: &mut Vec<u8>,
-    name: &[u8],
+    head: &[u8],
     counts: Counts,
     digest: &[u8],
 ) -> Result<(), AllocError>
     ensures { OnOk result
-        (out.new.items ≡ out.old.items ++ end_line form name.now counts digest.now) }
+        (out.new.items ≡ out.old.items ++ end_line form head.now counts digest.now) }
 {
     match form {
-        Form::Text => push_end_text(out, name, counts, digest),
-        Form::Json => push_end_object(alloc, out, name, counts, digest),
+        Form::Text => push_end_text(out, head, counts, digest),
+        Form::Json => push_end_object(alloc, out, head, counts, digest),
     }
 }
 
@@ -226,14 +226,14 @@ pub fn push_end(
 fn push_fault(
     form: Form,
     out: &mut Vec<u8>,
-    name: &[u8],
+    head: &[u8],
     fault: FileFault,
 ) -> Result<(), AllocError>
-    ensures { OnOk result (out.new.items ≡ out.old.items ++ file_fault_line form name.now fault) }
+    ensures { OnOk result (out.new.items ≡ out.old.items ++ file_fault_line form head.now fault) }
 {
     match form {
-        Form::Text => push_fault_text(out, name, fault),
-        Form::Json => push_fault_object(out, name, fault),
+        Form::Text => push_fault_text(out, head, fault),
+        Form::Json => push_fault_object(out, head, fault),
     }
 }
 
@@ -242,13 +242,13 @@ fn push_fault(
 pub fn review_fault(
     alloc: Global,
     form: Form,
-    name: &[u8],
+    head: &[u8],
     fault: FileFault,
 ) -> Result<Reviewed, AllocError>
-    ensures { IfOk result (λ r. review r ≡ fault_review form name.now fault) }
+    ensures { IfOk result (λ r. review r ≡ fault_review form head.now fault) }
 {
     let mut text = Vec::new(alloc);
-    push_fault(form, &mut text, name, fault)?;
+    push_fault(form, &mut text, head, fault)?;
     Ok(Reviewed {
         text,
         counts: Counts::NONE,
@@ -256,25 +256,25 @@ pub fn review_fault(
     })
 }
 
-/// The review of an `authorized_keys` file of this name and these bytes: a record for each entry
-/// and each line that cannot be read, in their order, and an end with counts and the SHA-256. A
-/// file of more than 67,108,864 bytes has the fault A7. The text is made as a whole; `auth_records`
-/// makes it a few records at a time.
+/// The review of an `authorized_keys` file of these bytes, in which each line begins with this head
+/// (`file_head`): a record for each entry and each line that cannot be read, in their order, and an
+/// end with counts and the SHA-256. A file of more than 67,108,864 bytes has the fault A7. The text is
+/// made as a whole; `auth_records` makes it a few records at a time.
 pub fn review_auth(
     alloc: Global,
     form: Form,
     asked: &ReviewOptions<'_>,
-    name: &[u8],
+    head: &[u8],
     file: &[u8],
 ) -> Result<Reviewed, AllocError>
     ensures { IfOk result
-        (λ r. review r ≡ auth_review form (asking_of asked.entry.now) name.now file.now) }
+        (λ r. review r ≡ auth_review form (asking_of asked.entry.now) head.now file.now) }
 {
     if file.len() > FILE_LIMIT {
-        review_fault(alloc, form, name, FileFault::TooLong)
+        review_fault(alloc, form, head, FileFault::TooLong)
     } else {
         let begun = auth_records(alloc, file)?;
-        let whole = whole_review(alloc, form, asked, name, file, begun)?;
+        let whole = whole_review(alloc, form, asked, head, file, begun)?;
         Ok(whole.review)
     }
 }

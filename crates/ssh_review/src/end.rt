@@ -5,15 +5,16 @@ ghost use Rattle.ssh_review.specs.Counting.{no_counts, plus_within};
 ghost use Rattle.std.specs.List.{flat_map};
 ghost use Rattle.ssh_findings.specs.Asking.{asking_of};
 ghost use Rattle.ssh_review.specs.Asked.{asked_of};
-ghost use Rattle.ssh_review.specs.Ends.{asked_by, count_text, counts_text, end_text, fault_code, fault_text, total_text, total_words};
-ghost use Rattle.ssh_review.specs.EndObjects.{code_element, counts_fields, end_head, end_object, fault_object, review_fields, total_counts, total_object};
+ghost use Rattle.ssh_review.specs.Ends.{asked_by, count_text, counts_text, end_text, cause_words, fault_code, fault_text, total_text, total_words, why_text};
+ghost use Rattle.ssh_review.specs.EndObjects.{code_element, counts_fields, end_head, end_object, fault_object, review_fields, total_counts, total_object, why_field};
 
 use crate::asked::{AskedAt, push_asked_fields, push_asked_words, push_total_head};
 use crate::fault_counts::{FaultCounts, push_faults_object};
 use crate::fields::{push_array, push_null_field, push_number_field, push_text_field};
 use crate::found::{push_found_lines, push_found_object};
+use ssh_files::UnreadCause;
 use ssh_findings::{Code, CodeCounts, ReviewOptions};
-use ssh_print::{push_escaped, push_hex, push_json_text, push_number};
+use ssh_print::{push_hex, push_json_text, push_number};
 use std::alloc::{AllocError, Global};
 
 /// The output format of a review.
@@ -76,7 +77,7 @@ impl Counts {
 #[derive(Clone, Copy, Debug, PartialEq, Eq)]
 pub enum FileFault {
     /// A9: the file is missing, or cannot be read.
-    Unread,
+    Unread(UnreadCause),
     /// A7: it is longer than 67,108,864 bytes.
     TooLong,
 }
@@ -122,14 +123,14 @@ fn push_counts(out: &mut Vec<u8>, counts: Counts) -> Result<(), AllocError>
 /// Appends the end of a file that was reviewed, as text.
 pub(crate) fn push_end_text(
     out: &mut Vec<u8>,
-    name: &[u8],
+    head: &[u8],
     counts: Counts,
     digest: &[u8],
 ) -> Result<(), AllocError>
     ensures { OnOk result
-        (out.new.items ≡ out.old.items ++ end_text name.now counts digest.now) }
+        (out.new.items ≡ out.old.items ++ end_text head.now counts digest.now) }
 {
-    push_escaped(out, name)?;
+    out.extend_from_slice(head)?;
     out.extend_from_slice(b": ")?;
     push_counts(out, counts)?;
     out.extend_from_slice(b", sha256 ")?;
@@ -143,22 +144,46 @@ pub(crate) fn fault_code(fault: FileFault) -> &'static [u8]
     ensures { result.now ≡ fault_code fault }
 {
     match fault {
-        FileFault::Unread => b"A9",
+        FileFault::Unread(_) => b"A9",
         FileFault::TooLong => b"A7",
     }
+}
+
+/// Why a file could not be read, in words.
+pub(crate) fn cause_words(cause: UnreadCause) -> &'static [u8]
+    ensures { result.now ≡ cause_words cause }
+{
+    match cause {
+        UnreadCause::NotFound => b"not found",
+        UnreadCause::PermissionDenied => b"no permission",
+        UnreadCause::IsADirectory => b"a folder",
+        UnreadCause::Other => b"not readable",
+    }
+}
+
+/// Appends why a file could not be read, behind the code of its fault.
+fn push_why_text(out: &mut Vec<u8>, fault: FileFault) -> Result<(), AllocError>
+    ensures { OnOk result (out.new.items ≡ out.old.items ++ why_text fault) }
+{
+    if let FileFault::Unread(cause) = fault {
+        out.extend_from_slice(b": ")?;
+        out.extend_from_slice(cause_words(cause))?;
+    }
+    Ok(())
 }
 
 /// Appends the end of a file with a fault, as text.
 pub(crate) fn push_fault_text(
     out: &mut Vec<u8>,
-    name: &[u8],
+    head: &[u8],
     fault: FileFault,
 ) -> Result<(), AllocError>
-    ensures { OnOk result (out.new.items ≡ out.old.items ++ fault_text name.now fault) }
+    ensures { OnOk result (out.new.items ≡ out.old.items ++ fault_text head.now fault) }
 {
-    push_escaped(out, name)?;
+    out.extend_from_slice(head)?;
     out.extend_from_slice(b": fault ")?;
     out.extend_from_slice(fault_code(fault))?;
+    push_why_text(out, fault)?;
     out.push(b'\n')?;
     Ok(())
 }
@@ -213,11 +238,10 @@ pub(crate) fn push_total_text(
 
 /// Appends the first fields of a file's end: the file's name, and that it is an end.
 #[tactic(auto, unfolding(crate::specs::EndObjects::end_head))]
-fn push_end_head(out: &mut Vec<u8>, name: &[u8]) -> Result<(), AllocError>
-    ensures { OnOk result (out.new.items ≡ out.old.items ++ end_head name.now) }
+fn push_end_head(out: &mut Vec<u8>, head: &[u8]) -> Result<(), AllocError>
+    ensures { OnOk result (out.new.items ≡ out.old.items ++ end_head head.now) }
 {
-    out.extend_from_slice(b"{\"file\":")?;
-    push_json_text(out, name)?;
+    out.extend_from_slice(head)?;
     push_text_field(out, b"what", b"end")?;
     Ok(())
 }
@@ -238,21 +262,33 @@ fn push_counts_fields(out: &mut Vec<u8>, counts: Counts) -> Result<(), AllocErro
 pub(crate) fn push_end_object(
     alloc: Global,
     out: &mut Vec<u8>,
-    name: &[u8],
+    head: &[u8],
     counts: Counts,
     digest: &[u8],
 ) -> Result<(), AllocError>
     ensures { OnOk result
-        (out.new.items ≡ out.old.items ++ end_object name.now counts digest.now) }
+        (out.new.items ≡ out.old.items ++ end_object head.now counts digest.now) }
 {
     let mut hex = Vec::new(alloc);
     push_hex(&mut hex, digest)?;
-    push_end_head(out, name)?;
+    push_end_head(out, head)?;
     push_counts_fields(out, counts)?;
     push_text_field(out, b"sha256", &hex)?;
     push_null_field(out, b"fault")?;
+    push_null_field(out, b"why")?;
     out.extend_from_slice(b"}\n")?;
     Ok(())
+}
+
+/// Appends the field that says why a file could not be read; `null` for another fault.
+#[tactic(auto, unfolding(crate::specs::EndObjects::why_field))]
+fn push_why_field(out: &mut Vec<u8>, fault: FileFault) -> Result<(), AllocError>
+    ensures { OnOk result (out.new.items ≡ out.old.items ++ why_field fault) }
+{
+    match fault {
+        FileFault::Unread(cause) => push_text_field(out, b"why", cause_words(cause)),
+        FileFault::TooLong => push_null_field(out, b"why"),
+    }
 }
 
 /// Appends the end of a file with a fault, as a JSON object. Its counts are 0 and its `sha256` is
@@ -260,15 +296,16 @@ pub(crate) fn push_end_object(
 #[tactic(auto, unfolding(crate::specs::EndObjects::fault_object))]
 pub(crate) fn push_fault_object(
     out: &mut Vec<u8>,
-    name: &[u8],
+    head: &[u8],
     fault: FileFault,
 ) -> Result<(), AllocError>
-    ensures { OnOk result (out.new.items ≡ out.old.items ++ fault_object name.now fault) }
+    ensures { OnOk result (out.new.items ≡ out.old.items ++ fault_object head.now fault) }
 {
-    push_end_head(out, name)?;
+    push_end_head(out, head)?;
     push_counts_fields(out, Counts::NONE)?;
     push_null_field(out, b"sha256")?;
     push_text_field(out, b"fault", fault_code(fault))?;
+    push_why_field(out, fault)?;
     out.extend_from_slice(b"}\n")?;
     Ok(())
 }

@@ -3,7 +3,7 @@
 ghost use Rattle.std.specs.Prelude.{◌≡◌, ◌++◌, OnOk};
 ghost use Rattle.ssh_review.specs.FaultCounts.{faults_object, faults_with};
 
-use crate::end::{FileFault, fault_code};
+use crate::end::FileFault;
 use crate::fields::{push_count_field, push_object};
 use std::alloc::{AllocError, Global};
 
@@ -32,7 +32,7 @@ impl FaultCounts {
                 too_long: self.too_long.saturating_add(1),
                 unread: self.unread,
             },
-            Some(FileFault::Unread) => FaultCounts {
+            Some(FileFault::Unread(_)) => FaultCounts {
                 too_long: self.too_long,
                 unread: self.unread.saturating_add(1),
             },
@@ -50,8 +50,8 @@ pub(crate) fn push_faults_object(
     ensures { OnOk result (out.new.items ≡ out.old.items ++ faults_object counts) }
 {
     let mut fields = Vec::new(alloc);
-    push_count_field(&mut fields, fault_code(FileFault::TooLong), counts.too_long)?;
-    push_count_field(&mut fields, fault_code(FileFault::Unread), counts.unread)?;
+    push_count_field(&mut fields, b"A7", counts.too_long)?;
+    push_count_field(&mut fields, b"A9", counts.unread)?;
     push_object(out, b"faults_by_code", &fields)?;
     Ok(())
 }

@@ -32,7 +32,7 @@ pub(crate) fn push_entry_object(
     found: &[HostFinding],
 ) -> Result<(), AllocError>
     ensures { OnOk result (out.new.items ≡ out.old.items
-        ++ host_entry_object place.entry.now.name.now place.entry.now.number facts.now found.now) }
+        ++ host_entry_object place.entry.now.head.now place.entry.now.number facts.now found.now) }
 {
     push_object_head(out, place, is_word(facts.is_authority))?;
     push_entry_fields(out, facts)?;
@@ -85,7 +85,7 @@ pub(crate) fn push_revoked_object(
     found: &[HostFinding],
 ) -> Result<(), AllocError>
     ensures { OnOk result (out.new.items ≡ out.old.items
-        ++ revoked_object place.entry.now.name.now place.entry.now.number bytes.now facts.now found.now) }
+        ++ revoked_object place.entry.now.head.now place.entry.now.number bytes.now facts.now found.now) }
 {
     push_object_head(out, place, b"revoked")?;
     push_revoked_fields(alloc, out, bytes)?;
@@ -106,7 +106,7 @@ pub(crate) fn push_bare_object(
     found: &[HostFinding],
 ) -> Result<(), AllocError>
     ensures { OnOk result (out.new.items ≡ out.old.items
-        ++ bare_object place.entry.now.name.now place.entry.now.number is.now held found.now) }
+        ++ bare_object place.entry.now.head.now place.entry.now.number is.now held found.now) }
 {
     push_object_head(out, place, is)?;
     push_held_fields(out, held)?;

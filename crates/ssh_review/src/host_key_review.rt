@@ -62,7 +62,7 @@ fn push_key_entry(
 ) -> Result<KeyCounts, AllocError>
     ensures text { OnOk result ((lines : List HostLine) → RemembersLines earlier.old lines
         → out.new.items ≡ out.old.items ++ host_key_record sought.now form
-        (asking_of asked.entry.now) place.entry.now.name.now lines place.entry.now.number line.now
+        (asking_of asked.entry.now) place.entry.now.head.now lines place.entry.now.number line.now
         (KnownLine.Entry entry.now)) }
     ensures counts { IfOk result (λ reported. (lines : List HostLine) → RemembersLines earlier.old lines
         → reported ≡ host_key_counts sought.now (asking_of asked.entry.now) lines line.now
@@ -96,7 +96,7 @@ fn push_key_revoked(
 ) -> Result<KeyCounts, AllocError>
     ensures text { OnOk result ((lines : List HostLine) → RemembersLines earlier.old lines
         → out.new.items ≡ out.old.items ++ host_key_record sought.now form
-        (asking_of asked.entry.now) place.entry.now.name.now lines place.entry.now.number line.now
+        (asking_of asked.entry.now) place.entry.now.head.now lines place.entry.now.number line.now
         (KnownLine.Revoked bytes.now)) }
     ensures counts { IfOk result (λ reported. (lines : List HostLine) → RemembersLines earlier.old lines
         → reported ≡ host_key_counts sought.now (asking_of asked.entry.now) lines line.now
@@ -128,7 +128,7 @@ fn push_key_blind(
     out: &mut Vec<u8>,
 ) -> Result<KeyCounts, AllocError>
     ensures text { OnOk result (out.new.items ≡ out.old.items ++ host_key_record sought.now form
-        (asking_of asked.entry.now) place.entry.now.name.now [] place.entry.now.number line.now
+        (asking_of asked.entry.now) place.entry.now.head.now [] place.entry.now.number line.now
         KnownLine.RevokedUnreadable) }
     ensures counts { IfOk result (λ reported. reported ≡ host_key_counts sought.now
         (asking_of asked.entry.now) [] line.now KnownLine.RevokedUnreadable) }
@@ -155,7 +155,7 @@ fn push_key_unreadable(
     out: &mut Vec<u8>,
 ) -> Result<KeyCounts, AllocError>
     ensures text { OnOk result (out.new.items ≡ out.old.items ++ host_key_record sought.now form
-        (asking_of asked.entry.now) place.entry.now.name.now [] place.entry.now.number line.now
+        (asking_of asked.entry.now) place.entry.now.head.now [] place.entry.now.number line.now
         (KnownLine.Unreadable cause)) }
     ensures counts { IfOk result (λ reported. reported ≡ host_key_counts sought.now
         (asking_of asked.entry.now) [] line.now (KnownLine.Unreadable cause)) }
@@ -184,7 +184,7 @@ fn push_key_line(
 ) -> Result<KeyCounts, AllocError>
     ensures text { OnOk result ((lines : List HostLine) → RemembersLines earlier.old lines
         → out.new.items ≡ out.old.items ++ host_key_record sought.now form
-        (asking_of asked.entry.now) place.entry.now.name.now lines place.entry.now.number line.now
+        (asking_of asked.entry.now) place.entry.now.head.now lines place.entry.now.number line.now
         (known_seen view.now)) }
     ensures counts { IfOk result (λ reported. (lines : List HostLine) → RemembersLines earlier.old lines
         → reported ≡ host_key_counts sought.now (asking_of asked.entry.now) lines line.now
@@ -239,7 +239,7 @@ impl<'a> LineRecords for ForKey<'a, EarlierHosts> {
         Ok(reported)
     }
 
-    ghost ends = { λ x form asking name file line_reports h. h.are_reports };
+    ghost ends = { λ x form asking head file line_reports h. h.are_reports };
 }
 
 /// The review of a `known_hosts` file of these bytes for the key with this fingerprint, before its
@@ -250,9 +250,9 @@ pub fn known_key_records<'a>(
     sought: &'a [u8; 43],
 ) -> Result<Records<'a, ForKey<'a, EarlierHosts>>, AllocError>
     requires { length file.now ≤ file_limit }
-    ensures { IfOk result (λ r. (form : RecordFormValue) (asking : Asking) (name : List ℕ)
-        → HasLeft KnownKeyTells All form asking name file.now
-        (host_key_records_of sought.now form asking name [] (numbered 1 (lines_of file.now)))
+    ensures { IfOk result (λ r. (form : RecordFormValue) (asking : Asking) (head : List ℕ)
+        → HasLeft KnownKeyTells All form asking head file.now
+        (host_key_records_of sought.now form asking head [] (numbered 1 (lines_of file.now)))
         (host_key_counts_of sought.now asking [] (numbered 1 (lines_of file.now))) r) }
 {
     let earlier = EarlierHosts::new(alloc);
@@ -269,18 +269,18 @@ pub fn review_known_key(
     alloc: Global,
     form: Form,
     asked: &ReviewOptions<'_>,
-    name: &[u8],
+    head: &[u8],
     file: &[u8],
     sought: &[u8; 43],
 ) -> Result<KeyReviewed, AllocError>
     ensures { IfOk result (λ r. key_review r
-        ≡ known_key_review sought.now form (asking_of asked.entry.now) name.now file.now) }
+        ≡ known_key_review sought.now form (asking_of asked.entry.now) head.now file.now) }
 {
     if file.len() > FILE_LIMIT {
-        review_key_fault(alloc, form, name, FileFault::TooLong)
+        review_key_fault(alloc, form, head, FileFault::TooLong)
     } else {
         let begun = known_key_records(alloc, file, sought)?;
-        let whole = whole_review(alloc, form, asked, name, file, begun)?;
+        let whole = whole_review(alloc, form, asked, head, file, begun)?;
         Ok(whole)
     }
 }

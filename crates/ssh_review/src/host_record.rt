@@ -33,7 +33,7 @@ pub(crate) fn push_entry_text(
     found: &[HostFinding],
 ) -> Result<(), AllocError>
     ensures { OnOk result (out.new.items ≡ out.old.items
-        ++ host_entry_text place.entry.now.name.now place.entry.now.number facts.now found.now) }
+        ++ host_entry_text place.entry.now.head.now place.entry.now.number facts.now found.now) }
 {
     push_place(out, place)?;
     push_head(out, facts)?;
@@ -64,7 +64,7 @@ pub(crate) fn push_revoked_text(
     found: &[HostFinding],
 ) -> Result<(), AllocError>
     ensures { OnOk result (out.new.items ≡ out.old.items
-        ++ revoked_text place.entry.now.name.now place.entry.now.number bytes.now facts.now found.now) }
+        ++ revoked_text place.entry.now.head.now place.entry.now.number bytes.now facts.now found.now) }
 {
     let print = print_of(alloc, bytes)?;
     push_place(out, place)?;
@@ -88,7 +88,7 @@ pub(crate) fn push_bare_text(
     found: &[HostFinding],
 ) -> Result<(), AllocError>
     ensures { OnOk result (out.new.items ≡ out.old.items
-        ++ bare_text place.entry.now.name.now place.entry.now.number is.now held found.now) }
+        ++ bare_text place.entry.now.head.now place.entry.now.number is.now held found.now) }
 {
     push_place(out, place)?;
     out.extend_from_slice(is)?;

@@ -56,7 +56,7 @@ pub(crate) fn push_entry_line(
 ) -> Result<Counts, AllocError>
     ensures text { OnOk result ((lines : List HostLine) → RemembersLines earlier.old lines
         → out.new.items ≡ out.old.items ++ host_line_record form (asking_of asked.entry.now)
-        place.entry.now.name.now lines place.entry.now.number line.now (KnownLine.Entry entry.now)) }
+        place.entry.now.head.now lines place.entry.now.number line.now (KnownLine.Entry entry.now)) }
     ensures counts { IfOk result (λ counts. (lines : List HostLine) → RemembersLines earlier.old lines
         → counts ≡ host_line_counts (asking_of asked.entry.now) lines line.now (KnownLine.Entry entry.now)) }
     ensures kept { OnOk result ((lines : List HostLine) → RemembersLines earlier.old lines
@@ -115,7 +115,7 @@ pub(crate) fn push_revoked_line(
 ) -> Result<Counts, AllocError>
     ensures text { OnOk result ((lines : List HostLine) → RemembersLines earlier.old lines
         → out.new.items ≡ out.old.items ++ host_line_record form (asking_of asked.entry.now)
-        place.entry.now.name.now lines place.entry.now.number line.now (KnownLine.Revoked bytes.now)) }
+        place.entry.now.head.now lines place.entry.now.number line.now (KnownLine.Revoked bytes.now)) }
     ensures counts { IfOk result (λ counts. (lines : List HostLine) → RemembersLines earlier.old lines
         → counts ≡ host_line_counts (asking_of asked.entry.now) lines line.now (KnownLine.Revoked bytes.now)) }
     ensures kept { OnOk result ((lines : List HostLine) → RemembersLines earlier.old lines
@@ -168,7 +168,7 @@ fn push_bare_line(
     out: &mut Vec<u8>,
 ) -> Result<Counts, AllocError>
     ensures text { OnOk result (out.new.items ≡ out.old.items
-        ++ bare_record form place.entry.now.name.now place.entry.now.number is.now held found.now) }
+        ++ bare_record form place.entry.now.head.now place.entry.now.number is.now held found.now) }
     ensures counts { IfOk result (λ counts. counts ≡ bare_counts found.now) }
 {
     match form {
@@ -198,7 +198,7 @@ pub(crate) fn push_blind_line(
     out: &mut Vec<u8>,
 ) -> Result<Counts, AllocError>
     ensures text { OnOk result (out.new.items ≡ out.old.items ++ host_line_record form (asking_of asked.entry.now)
-        place.entry.now.name.now [] place.entry.now.number line.now KnownLine.RevokedUnreadable) }
+        place.entry.now.head.now [] place.entry.now.number line.now KnownLine.RevokedUnreadable) }
     ensures counts { IfOk result (λ counts. counts ≡ host_line_counts (asking_of asked.entry.now)
         [] line.now KnownLine.RevokedUnreadable) }
 {
@@ -226,7 +226,7 @@ pub(crate) fn push_unreadable_line(
     out: &mut Vec<u8>,
 ) -> Result<Counts, AllocError>
     ensures text { OnOk result (out.new.items ≡ out.old.items ++ host_line_record form (asking_of asked.entry.now)
-        place.entry.now.name.now [] place.entry.now.number line.now (KnownLine.Unreadable cause)) }
+        place.entry.now.head.now [] place.entry.now.number line.now (KnownLine.Unreadable cause)) }
     ensures counts { IfOk result (λ counts. counts ≡ host_line_counts (asking_of asked.entry.now)
         [] line.now (KnownLine.Unreadable cause)) }
 {
@@ -248,7 +248,7 @@ fn push_line(
 ) -> Result<Counts, AllocError>
     ensures text { OnOk result ((lines : List HostLine) → RemembersLines earlier.old lines
         → out.new.items ≡ out.old.items ++ host_line_record form (asking_of asked.entry.now)
-        place.entry.now.name.now lines place.entry.now.number line.now (known_seen view.now)) }
+        place.entry.now.head.now lines place.entry.now.number line.now (known_seen view.now)) }
     ensures counts { IfOk result (λ counts. (lines : List HostLine) → RemembersLines earlier.old lines
         → counts ≡ host_line_counts (asking_of asked.entry.now) lines line.now (known_seen view.now)) }
     ensures kept { OnOk result ((lines : List HostLine) → RemembersLines earlier.old lines
@@ -295,7 +295,7 @@ impl LineRecords for EarlierHosts {
         })
     }
 
-    ghost ends = { λ x form asking name file line_reports h. h.are_reports };
+    ghost ends = { λ x form asking head file line_reports h. h.are_reports };
 }
 
 /// The review of a `known_hosts` file of these bytes, before its first record is made: a record for
@@ -304,9 +304,9 @@ impl LineRecords for EarlierHosts {
 /// blob.
 pub fn known_records(alloc: Global, file: &[u8]) -> Result<Records<'_, EarlierHosts>, AllocError>
     requires { length file.now ≤ file_limit }
-    ensures { IfOk result (λ r. (show : ShowValue) (form : RecordFormValue) (asking : Asking) (name : List ℕ)
-        → HasLeft KnownTells show form asking name file.now
-        (shown_records show (host_line_reports_of form asking name [] (numbered 1 (lines_of file.now))))
+    ensures { IfOk result (λ r. (show : ShowValue) (form : RecordFormValue) (asking : Asking) (head : List ℕ)
+        → HasLeft KnownTells show form asking head file.now
+        (shown_records show (host_line_reports_of form asking head [] (numbered 1 (lines_of file.now))))
         (of_all (host_counts_of asking [] (numbered 1 (lines_of file.now)))) r) }
 {
     let earlier = EarlierHosts::new(alloc);
@@ -314,26 +314,26 @@ pub fn known_records(alloc: Global, file: &[u8]) -> Result<Records<'_, EarlierHo
     Ok(records)
 }
 
-/// The review of a `known_hosts` file of this name and these bytes: a record for each entry, each
-/// revocation and each line that cannot be read, in their order, and an end with counts and the
-/// SHA-256. A file of more than 67,108,864 bytes has the fault A7. During the review the first line
+/// The review of a `known_hosts` file of these bytes, in which each line begins with this head
+/// (`file_head`): a record for each entry, each revocation and each line that cannot be read, in their
+/// order, and an end with counts and the SHA-256. A file of more than 67,108,864 bytes has the fault A7. During the review the first line
 /// of each key, and of each name with a type of key, is stored. The text is made as a whole;
 /// `known_records` makes it a few records at a time.
 pub fn review_known(
     alloc: Global,
     form: Form,
     asked: &ReviewOptions<'_>,
-    name: &[u8],
+    head: &[u8],
     file: &[u8],
 ) -> Result<Reviewed, AllocError>
     ensures { IfOk result
-        (λ r. review r ≡ known_review form (asking_of asked.entry.now) name.now file.now) }
+        (λ r. review r ≡ known_review form (asking_of asked.entry.now) head.now file.now) }
 {
     if file.len() > FILE_LIMIT {
-        review_fault(alloc, form, name, FileFault::TooLong)
+        review_fault(alloc, form, head, FileFault::TooLong)
     } else {
         let begun = known_records(alloc, file)?;
-        let whole = whole_review(alloc, form, asked, name, file, begun)?;
+        let whole = whole_review(alloc, form, asked, head, file, begun)?;
         Ok(whole.review)
     }
 }

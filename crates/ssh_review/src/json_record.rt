@@ -15,14 +15,13 @@ use ssh_findings::{Facts, Finding, HeldKey};
 use ssh_keys::KeyKind;
 use ssh_options::OptionsView;
 use ssh_page::RowPlace;
-use ssh_print::push_json_text;
 use ssh_rights::Rights;
 use std::alloc::{AllocError, Global};
 
-/// A line of a file: the name of the file, and the line's number from 1.
+/// A line of a file: how the records of the file begin, and the line's number from 1.
 #[derive(Clone, Copy, Debug)]
 pub struct LineRef<'a> {
-    pub name: &'a [u8],
+    pub head: &'a [u8],
     pub number: u64,
 }
 
@@ -41,10 +40,9 @@ pub(crate) fn push_object_head(
     what: &[u8],
 ) -> Result<(), AllocError>
     ensures { OnOk result (out.new.items
-        ≡ out.old.items ++ object_head place.entry.now.name.now place.entry.now.number what.now) }
+        ≡ out.old.items ++ object_head place.entry.now.head.now place.entry.now.number what.now) }
 {
-    out.extend_from_slice(b"{\"file\":")?;
-    push_json_text(out, place.name)?;
+    out.extend_from_slice(place.head)?;
     push_number_field(out, b"line", place.number)?;
     push_text_field(out, b"what", what)?;
     Ok(())
@@ -141,7 +139,7 @@ pub(crate) fn push_entry_object(
     lets_in: bool,
     found: &[Finding],
 ) -> Result<(), AllocError>
-    ensures { OnOk result (out.new.items ≡ out.old.items ++ entry_object place.entry.now.name.now
+    ensures { OnOk result (out.new.items ≡ out.old.items ++ entry_object place.entry.now.head.now
         place.entry.now.number facts.now options.entry shadowed_by lets_in found.now) }
 {
     push_object_head(out, place, is_word(facts.is_authority))?;
@@ -201,7 +199,7 @@ pub(crate) fn push_unreadable_object(
     found: &[Finding],
 ) -> Result<(), AllocError>
     ensures { OnOk result (out.new.items ≡ out.old.items ++ unreadable_object
-        place.entry.now.name.now place.entry.now.number held found.now) }
+        place.entry.now.head.now place.entry.now.number held found.now) }
 {
     push_object_head(out, place, b"unreadable")?;
     push_held_fields(out, held)?;

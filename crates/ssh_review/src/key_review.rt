@@ -109,7 +109,7 @@ fn push_key_entry(
 ) -> Result<KeyCounts, AllocError>
     ensures text { OnOk result ((held : List Held) → RemembersEntries earlier.old held
         → out.new.items ≡ out.old.items ++ key_record sought.now form (asking_of asked.entry.now)
-        place.entry.now.name.now held (place.entry.now.number, []) (AuthLine.Entry entry.now)) }
+        place.entry.now.head.now held (place.entry.now.number, []) (AuthLine.Entry entry.now)) }
     ensures counts { IfOk result (λ reported. (held : List Held) → RemembersEntries earlier.old held
         → reported ≡ key_counts sought.now (asking_of asked.entry.now) held []
         (AuthLine.Entry entry.now)) }
@@ -139,7 +139,7 @@ fn push_key_unreadable(
     out: &mut Vec<u8>,
 ) -> Result<KeyCounts, AllocError>
     ensures text { OnOk result (out.new.items ≡ out.old.items ++ key_record sought.now form
-        (asking_of asked.entry.now) place.entry.now.name.now [] (place.entry.now.number, line.now)
+        (asking_of asked.entry.now) place.entry.now.head.now [] (place.entry.now.number, line.now)
         (AuthLine.Unreadable cause)) }
     ensures counts { IfOk result (λ reported. reported ≡ key_counts sought.now (asking_of asked.entry.now)
         [] line.now (AuthLine.Unreadable cause)) }
@@ -168,7 +168,7 @@ fn push_key_line(
 ) -> Result<KeyCounts, AllocError>
     ensures text { OnOk result ((held : List Held) → RemembersEntries earlier.old held
         → out.new.items ≡ out.old.items ++ key_record sought.now form (asking_of asked.entry.now)
-        place.entry.now.name.now held (place.entry.now.number, line.now) (line_seen view.now)) }
+        place.entry.now.head.now held (place.entry.now.number, line.now) (line_seen view.now)) }
     ensures counts { IfOk result (λ reported. (held : List Held) → RemembersEntries earlier.old held
         → reported ≡ key_counts sought.now (asking_of asked.entry.now) held line.now
         (line_seen view.now)) }
@@ -216,7 +216,7 @@ impl<'a> LineRecords for ForKey<'a, Earlier> {
         Ok(reported)
     }
 
-    ghost ends = { λ x form asking name file line_reports h. h.are_reports };
+    ghost ends = { λ x form asking head file line_reports h. h.are_reports };
 }
 
 /// The review of an `authorized_keys` file of these bytes for the key with this fingerprint, before
@@ -227,9 +227,9 @@ pub fn auth_key_records<'a>(
     sought: &'a [u8; 43],
 ) -> Result<Records<'a, ForKey<'a, Earlier>>, AllocError>
     requires { length file.now ≤ file_limit }
-    ensures { IfOk result (λ r. (form : RecordFormValue) (asking : Asking) (name : List ℕ)
-        → HasLeft AuthKeyTells All form asking name file.now
-        (key_records_of sought.now form asking name [] (numbered 1 (lines_of file.now)))
+    ensures { IfOk result (λ r. (form : RecordFormValue) (asking : Asking) (head : List ℕ)
+        → HasLeft AuthKeyTells All form asking head file.now
+        (key_records_of sought.now form asking head [] (numbered 1 (lines_of file.now)))
         (key_counts_of sought.now asking [] (numbered 1 (lines_of file.now))) r) }
 {
     let earlier = Earlier::new(alloc);
@@ -242,17 +242,17 @@ pub fn auth_key_records<'a>(
 pub(crate) fn with_end(
     alloc: Global,
     form: Form,
-    name: &[u8],
+    head: &[u8],
     file: &[u8],
     reported: KeyCounts,
     records: Vec<u8>,
 ) -> Result<KeyReviewed, AllocError>
     ensures { IfOk result
-        (λ r. key_review r ≡ reviewed_by form name.now file.now records.items reported) }
+        (λ r. key_review r ≡ reviewed_by form head.now file.now records.items reported) }
 {
     let mut text = records;
     let digest = Sha256::digest(file);
-    push_end(alloc, form, &mut text, name, reported.counts, &digest)?;
+    push_end(alloc, form, &mut text, head, reported.counts, &digest)?;
     Ok(KeyReviewed {
         review: Reviewed {
             text,
@@ -267,12 +267,12 @@ pub(crate) fn with_end(
 pub fn review_key_fault(
     alloc: Global,
     form: Form,
-    name: &[u8],
+    head: &[u8],
     fault: FileFault,
 ) -> Result<KeyReviewed, AllocError>
-    ensures { IfOk result (λ r. key_review r ≡ key_fault_review form name.now fault) }
+    ensures { IfOk result (λ r. key_review r ≡ key_fault_review form head.now fault) }
 {
-    let review = review_fault(alloc, form, name, fault)?;
+    let review = review_fault(alloc, form, head, fault)?;
     Ok(KeyReviewed {
         review,
         stands: false,
@@ -287,18 +287,18 @@ pub fn review_auth_key(
     alloc: Global,
     form: Form,
     asked: &ReviewOptions<'_>,
-    name: &[u8],
+    head: &[u8],
     file: &[u8],
     sought: &[u8; 43],
 ) -> Result<KeyReviewed, AllocError>
     ensures { IfOk result (λ r. key_review r
-        ≡ auth_key_review sought.now form (asking_of asked.entry.now) name.now file.now) }
+        ≡ auth_key_review sought.now form (asking_of asked.entry.now) head.now file.now) }
 {
     if file.len() > FILE_LIMIT {
-        review_key_fault(alloc, form, name, FileFault::TooLong)
+        review_key_fault(alloc, form, head, FileFault::TooLong)
     } else {
         let begun = auth_key_records(alloc, file, sought)?;
-        let whole = whole_review(alloc, form, asked, name, file, begun)?;
+        let whole = whole_review(alloc, form, asked, head, file, begun)?;
         Ok(whole)
     }
 }

@@ -13,6 +13,7 @@ ghost use Rattle.ssh_review.specs.declared.end.Total.{Total};
 ghost use Rattle.ssh_review.specs.declared.end.Form.{Form};
 ghost use Rattle.ssh_review.specs.declared.end.Form.TheVariants.{Json};
 ghost use Rattle.ssh_review.specs.declared.records.RecordForm.TheVariants.{AsLines};
+ghost use Rattle.ssh_review.specs.FileNames.{IsNameOfBytes, NameSeen, file_head};
 ghost use Rattle.ssh_review.specs.EndObjects.{end_object, fault_object, total_object};
 ghost use Rattle.ssh_review.specs.Forms.{file_fault_line, total_line};
 ghost use Rattle.ssh_review.specs.Lines.{counts_of, line_record};
@@ -32,18 +33,18 @@ ghost use Rattle.ssh_review.specs.HostReviews.{known_review};
 /// In JSON each record, each end and the total is one line of printable ASCII, whatever bytes are
 /// in the file and in its name.
 fn one_line_rule()
-    ensures one { (asking : Asking) (name : List ℕ) (earlier : List Held) (n : ℕ) (line : List ℕ)
-        → AreBytes name
+    ensures one { (asking : Asking) (name : NameSeen) (earlier : List Held) (n : ℕ) (line : List ℕ)
+        → IsNameOfBytes name
         → AreBytes line
-        → (line_record (AsLines Json) asking name earlier (n, line) (auth_line line) ≡ [])
-        ⊎ (is_line (line_record (AsLines Json) asking name earlier (n, line) (auth_line line)) ≡ true) }
-    ensures end { (name : List ℕ) (counts : Counts) (digest : List ℕ)
-        → AreBytes name
+        → (line_record (AsLines Json) asking (file_head Json name) earlier (n, line) (auth_line line) ≡ [])
+        ⊎ (is_line (line_record (AsLines Json) asking (file_head Json name) earlier (n, line) (auth_line line)) ≡ true) }
+    ensures end { (name : NameSeen) (counts : Counts) (digest : List ℕ)
+        → IsNameOfBytes name
         → AreBytes digest
-        → is_line (end_object name counts digest) ≡ true }
-    ensures fault { (name : List ℕ) (fault : FileFault)
-        → AreBytes name
-        → is_line (fault_object name fault) ≡ true }
+        → is_line (end_object (file_head Json name) counts digest) ≡ true }
+    ensures fault { (name : NameSeen) (fault : FileFault)
+        → IsNameOfBytes name
+        → is_line (fault_object (file_head Json name) fault) ≡ true }
     ensures total { (kind zone : List ℕ) (asking : Asking) (t : Total)
         → AreBytes kind
         → AreBytes zone
@@ -53,13 +54,13 @@ fn one_line_rule()
 /// In both formats the output is printable ASCII and the LFs at the ends of lines, whatever bytes
 /// are in the file and in its name.
 fn shown_rule()
-    ensures review { (form : Form) (asking : Asking) (name file : List ℕ)
-        → AreBytes name
+    ensures review { (form : Form) (asking : Asking) (name : NameSeen) (file : List ℕ)
+        → IsNameOfBytes name
         → AreBytes file
-        → are_shown (auth_review form asking name file).text ≡ true }
-    ensures fault { (form : Form) (name : List ℕ) (fault : FileFault)
-        → AreBytes name
-        → are_shown (file_fault_line form name fault) ≡ true }
+        → are_shown (auth_review form asking (file_head form name) file).text ≡ true }
+    ensures fault { (form : Form) (name : NameSeen) (fault : FileFault)
+        → IsNameOfBytes name
+        → are_shown (file_fault_line form (file_head form name) fault) ≡ true }
     ensures total { (form : Form) (kind zone : List ℕ) (asking : Asking) (t : Total)
         → AreBytes kind
         → AreBytes zone
@@ -80,33 +81,33 @@ fn counts_rule()
 /// break a reader of lines, or a terminal.
 fn json_lines_rule()
     ensures string { (text : List ℕ) → AreBytes text → are_printable (json_text text) ≡ true }
-    ensures entry { (name : List ℕ) (n : ℕ) (f : Facts) (options : List AuthOption)
+    ensures entry { (name : NameSeen) (n : ℕ) (f : Facts) (options : List AuthOption)
         (shadowed_by : Option ℕ) (lets_in : Bool) (found : List Finding)
-        → AreBytes name
+        → IsNameOfBytes name
         → IsOfBytes f
         → HaveByteValues options
-        → is_line (entry_object name n f options shadowed_by lets_in found) ≡ true }
-    ensures unreadable { (name : List ℕ) (n : ℕ) (held : Option HeldKey) (found : List Finding)
-        → AreBytes name
+        → is_line (entry_object (file_head Json name) n f options shadowed_by lets_in found) ≡ true }
+    ensures unreadable { (name : NameSeen) (n : ℕ) (held : Option HeldKey) (found : List Finding)
+        → IsNameOfBytes name
         → IsHeldOfBytes held
-        → is_line (unreadable_object name n held found) ≡ true }
+        → is_line (unreadable_object (file_head Json name) n held found) ≡ true }
 {}
 
 /// In JSON each record of a `known_hosts` file is one line of printable ASCII, whatever bytes are
 /// in the file and in its name.
 fn host_one_line_rule()
-    ensures { (asking : Asking) (name : List ℕ) (earlier : List HostLine) (n : ℕ) (line : List ℕ)
-        → AreBytes name
+    ensures { (asking : Asking) (name : NameSeen) (earlier : List HostLine) (n : ℕ) (line : List ℕ)
+        → IsNameOfBytes name
         → AreBytes line
-        → (host_line_record (AsLines Json) asking name earlier n line (known_line line) ≡ [])
-        ⊎ (is_line (host_line_record (AsLines Json) asking name earlier n line (known_line line)) ≡ true) }
+        → (host_line_record (AsLines Json) asking (file_head Json name) earlier n line (known_line line) ≡ [])
+        ⊎ (is_line (host_line_record (AsLines Json) asking (file_head Json name) earlier n line (known_line line)) ≡ true) }
 {}
 
 /// For a `known_hosts` file too, in both formats the output is printable ASCII and the LFs at the
 /// ends of lines.
 fn host_shown_rule()
-    ensures { (form : Form) (asking : Asking) (name file : List ℕ)
-        → AreBytes name
+    ensures { (form : Form) (asking : Asking) (name : NameSeen) (file : List ℕ)
+        → IsNameOfBytes name
         → AreBytes file
-        → are_shown (known_review form asking name file).text ≡ true }
+        → are_shown (known_review form asking (file_head form name) file).text ≡ true }
 {}

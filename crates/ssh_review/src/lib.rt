@@ -4,12 +4,14 @@
 //! The review of an `authorized_keys` file has a record for each entry and each line that cannot be
 //! read, and an end with counts and the SHA-256 of the bytes, as text or as JSON lines. It needs no
 //! clock, no network, no signature and no other file. `review_auth` makes a new text, and returns all
-//! of it or `AllocError`. A caller that reviews a file and returns whether something was found:
+//! of it or `AllocError`. Each record begins with the name of the file (`file_head`). A caller that
+//! reviews a file and returns whether something was found:
 //!
 //! ```
+//! let head = file_head(alloc, Form::Text, FileName::plain(name))?;
 //! let reported = Code::by_default();
 //! let asked = ReviewOptions { now, zone, is_zone_given: true, rsa_minimum: 2048, reported };
-//! let reviewed = review_auth(alloc, Form::Text, &asked, name, file)?;
+//! let reviewed = review_auth(alloc, Form::Text, &asked, &head, file)?;
 //! out.extend_from_slice(&reviewed.text)?;
 //! Ok(reviewed.counts.findings > 0)
 //! ```
@@ -21,12 +23,12 @@
 //! ```
 //! let form = RecordForm::AsLines(Form::Text);
 //! let mut records = auth_records(alloc, file)?;
-//! while records.push_some(alloc, Show::All, form, &asked, name, &mut out)? {
+//! while records.push_some(alloc, Show::All, form, &asked, &head, &mut out)? {
 //!     writer.write_all(&out)?;
 //!     out.clear();
 //! }
 //! let reported = records.reported();
-//! push_end(alloc, Form::Text, &mut out, name, reported.counts, &Sha256::digest(file))?;
+//! push_end(alloc, Form::Text, &mut out, &head, reported.counts, &Sha256::digest(file))?;
 //! writer.write_all(&out)?;
 //! ```
 //!
@@ -42,7 +44,7 @@
 //! ```
 //! let reported = Code::by_default();
 //! let asked = ReviewOptions { now, zone, is_zone_given: true, rsa_minimum: 2048, reported };
-//! let reviewed = review_known(alloc, Form::Text, &asked, name, file)?;
+//! let reviewed = review_known(alloc, Form::Text, &asked, &head, file)?;
 //! out.extend_from_slice(&reviewed.text)?;
 //! Ok(reviewed.counts.findings > 0)
 //! ```
@@ -51,7 +53,7 @@
 //! lines that hold it. A caller that tells whether a key stands in a file:
 //!
 //! ```
-//! let reviewed = review_auth_key(alloc, Form::Text, &asked, name, file, fingerprint)?;
+//! let reviewed = review_auth_key(alloc, Form::Text, &asked, &head, file, fingerprint)?;
 //! out.extend_from_slice(&reviewed.review.text)?;
 //! Ok(reviewed.stands)
 //! ```
@@ -69,6 +71,7 @@ mod decision_laws;
 mod end;
 mod fault_counts;
 mod fields;
+mod file_name;
 mod findings;
 mod found;
 mod host_json_record;
@@ -92,6 +95,7 @@ pub use asked::{AskedAt, asked_line};
 pub use auth_review::{auth_records, push_end, review_auth, review_fault, total_line, total_words};
 pub use end::{Counts, FileFault, Form, Reviewed, Total};
 pub use fault_counts::FaultCounts;
+pub use file_name::{FileName, Labels, file_head, shown_name};
 pub use host_key_review::{known_key_records, review_known_key};
 pub use host_review::{known_records, review_known};
 pub use json_record::LineRef;

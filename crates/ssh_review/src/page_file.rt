@@ -11,13 +11,14 @@ ghost use Rattle.ssh_review.specs.declared.key_review.KeyCounts.{KeyCounts as Ke
 ghost use Rattle.ssh_review.specs.declared.records.RecordForm.TheVariants.{AsRow};
 ghost use Rattle.ssh_review.specs.declared.show.Show.TheVariants.{All};
 ghost use Rattle.ssh_review.specs.Making.{HasLeft};
-ghost use Rattle.ssh_review.specs.PageFiles.{classes_of, fault_means, file_counts, file_section, register_row, section_marks, seen_so, unread_row, unread_section};
+ghost use Rattle.ssh_review.specs.PageFiles.{cause_means, classes_of, fault_means, file_counts, file_section, register_row, section_marks, seen_so, unread_row, unread_section};
 
 use crate::auth_review::auth_records;
 use crate::end::{Counts, FileFault, fault_code};
 use crate::host_review::known_records;
 use crate::records::{LineRecords, RecordForm, Records, push_all};
 use sha2::{Digest, Sha256};
+use ssh_files::UnreadCause;
 use ssh_findings::ReviewOptions;
 use ssh_page::{
     FileClasses, FileKind, FileRow, has_authority, push_empty_section, push_fault_row,
@@ -148,15 +149,25 @@ pub fn push_page_file(
     }
 }
 
+/// What it means that a file could not be read, and what to do.
+fn cause_means(cause: UnreadCause) -> &'static [u8]
+    ensures { result.now ≡ cause_means cause }
+{
+    match cause {
+        UnreadCause::NotFound => b"there is no such file: look at its name",
+        UnreadCause::PermissionDenied => b"it may not be read: look at its permissions",
+        UnreadCause::IsADirectory => b"it is a folder: name the files in it",
+        UnreadCause::Other => b"it could not be read: look at the disk",
+    }
+}
+
 /// What a fault means, and what to do.
 fn fault_means(fault: FileFault) -> &'static [u8]
     ensures { result.now ≡ fault_means fault }
 {
     match fault {
         FileFault::TooLong => b"it has more than 67,108,864 bytes: split it, or drop comments",
-        FileFault::Unread => {
-            b"it cannot be read: look at its name and its rights; a folder is not a file"
-        }
+        FileFault::Unread(cause) => cause_means(cause),
     }
 }
 

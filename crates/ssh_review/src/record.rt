@@ -15,12 +15,12 @@ use ssh_rights::{Carried, CarriedName, Rights};
 use ssh_text::Bytes;
 use std::alloc::{AllocError, Global};
 
-/// Appends a file's name and a line's number.
+/// Appends the front of a record and the number of its line.
 pub(crate) fn push_place(out: &mut Vec<u8>, place: &LineRef<'_>) -> Result<(), AllocError>
     ensures { OnOk result (out.new.items
-        ≡ out.old.items ++ place_text place.entry.now.name.now place.entry.now.number) }
+        ≡ out.old.items ++ place_text place.entry.now.head.now place.entry.now.number) }
 {
-    push_shown(out, place.name)?;
+    out.extend_from_slice(place.head)?;
     out.push(b':')?;
     push_number(out, place.number)?;
     out.extend_from_slice(b": ")?;
@@ -204,7 +204,7 @@ pub(crate) fn push_entry_text(
     found: &[Finding],
 ) -> Result<(), AllocError>
     ensures { OnOk result (out.new.items ≡ out.old.items
-        ++ entry_text place.entry.now.name.now place.entry.now.number facts.now found.now) }
+        ++ entry_text place.entry.now.head.now place.entry.now.number facts.now found.now) }
 {
     push_place(out, place)?;
     push_head(out, facts)?;
@@ -236,7 +236,7 @@ pub(crate) fn push_unreadable_text(
     found: &[Finding],
 ) -> Result<(), AllocError>
     ensures { OnOk result (out.new.items ≡ out.old.items
-        ++ unreadable_text place.entry.now.name.now place.entry.now.number held found.now) }
+        ++ unreadable_text place.entry.now.head.now place.entry.now.number held found.now) }
 {
     push_place(out, place)?;
     out.extend_from_slice(b"unreadable")?;

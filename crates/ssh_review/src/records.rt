@@ -33,7 +33,7 @@ pub enum RecordForm {
 /// What is stored of the lines of a trust file whose records were made, and how the record of the
 /// next is.
 pub trait LineRecords {
-    /// After the lines that were stored, these lines of the file of this name, each with its number,
+    /// After the lines that were stored, these lines of the file of this head, each with its number,
     /// tell this, one after the other.
     ghost tells: { Self → RecordFormValue → Asking → List ℕ → List ℕ → List (ℕ × List ℕ) → List LineReport → Type 0 };
 
@@ -50,16 +50,16 @@ pub trait LineRecords {
         out: &mut Vec<u8>,
     ) -> Result<KeyCounts, AllocError>
         ensures { IfOk result (λ reported. (file : List ℕ) (lines : List (ℕ × List ℕ)) (line_reports : List LineReport)
-            → tells self.old form (asking_of asked.entry.now) place.entry.now.name.now file
+            → tells self.old form (asking_of asked.entry.now) place.entry.now.head.now file
             ((place.entry.now.number, line.now) ∷ lines) line_reports
             → (own : List ℕ) × (more : List LineReport) × (line_reports ≡ line_report own reported ∷ more)
-            × tells self.new form (asking_of asked.entry.now) place.entry.now.name.now file lines more
+            × tells self.new form (asking_of asked.entry.now) place.entry.now.head.now file lines more
             × (out.new.items ≡ out.old.items ++ own)
             × (IsWrittenInLines form → AreWholeLines out.old.items → AreWholeLines out.new.items)) };
 
     /// No lines tell nothing.
-    ghost ends: { (x : Self) (form : RecordFormValue) (asking : Asking) (name file : List ℕ) (line_reports : List LineReport)
-        → tells x form asking name file [] line_reports → line_reports ≡ [] };
+    ghost ends: { (x : Self) (form : RecordFormValue) (asking : Asking) (head file : List ℕ) (line_reports : List LineReport)
+        → tells x form asking head file [] line_reports → line_reports ≡ [] };
 }
 
 /// What is stored of earlier lines, where only the records of the lines that hold one key are made:
@@ -116,20 +116,20 @@ impl<'a, L: LineRecords + Drop> Records<'a, L> {
         show: Show,
         form: RecordForm,
         asked: &ReviewOptions<'_>,
-        name: &[u8],
+        head: &[u8],
         out: &mut Vec<u8>,
     ) -> Result<bool, AllocError>
-        ensures made { OnOk result (MakesFront L.tells show form (asking_of asked.entry.now) name.now
+        ensures made { OnOk result (MakesFront L.tells show form (asking_of asked.entry.now) head.now
             self.old self.new out.old.items out.new.items) }
         ensures more { IfOk result (λ more. more ≡ true
             → length (lines_left self.new) < length (lines_left self.old)) }
         ensures over { IfOk result (λ more. more ≡ false
-            → IsAllMade L.tells show form (asking_of asked.entry.now) name.now self.new) }
+            → IsAllMade L.tells show form (asking_of asked.entry.now) head.now self.new) }
     {
         match self.lines.next() {
             None => Ok(false),
             Some((number, line)) => {
-                let place = LineRef { name, number };
+                let place = LineRef { head, number };
                 let before = out.len();
                 let reported = self
                     .earlier
@@ -150,17 +150,17 @@ impl<'a, L: LineRecords + Drop> Records<'a, L> {
         show: Show,
         form: RecordForm,
         asked: &ReviewOptions<'_>,
-        name: &[u8],
+        head: &[u8],
         out: &mut Vec<u8>,
     ) -> Result<bool, AllocError>
-        ensures made { OnOk result (MakesFront L.tells show form (asking_of asked.entry.now) name.now
+        ensures made { OnOk result (MakesFront L.tells show form (asking_of asked.entry.now) head.now
             self.old self.new out.old.items out.new.items) }
         ensures more { IfOk result (λ more. more ≡ true
             → length (lines_left self.new) < length (lines_left self.old)) }
         ensures over { IfOk result (λ more. more ≡ false
-            → IsAllMade L.tells show form (asking_of asked.entry.now) name.now self.new) }
+            → IsAllMade L.tells show form (asking_of asked.entry.now) head.now self.new) }
     {
-        while self.push_next(alloc, show, form, asked, name, out)? {
+        while self.push_next(alloc, show, form, asked, head, out)? {
             if out.len() >= ENOUGH {
                 return Ok(true);
             }
@@ -174,16 +174,16 @@ pub(crate) fn push_all<L: LineRecords + Drop>(
     alloc: Global,
     form: RecordForm,
     asked: &ReviewOptions<'_>,
-    name: &[u8],
+    head: &[u8],
     begun: Records<'_, L>,
     out: &mut Vec<u8>,
 ) -> Result<KeyCounts, AllocError>
     ensures { IfOk result (λ reported. (file text : List ℕ) (all : KeyCountsValue)
-        → HasLeft L.tells All form (asking_of asked.entry.now) name.now file text all begun.entry
+        → HasLeft L.tells All form (asking_of asked.entry.now) head.now file text all begun.entry
         → (out.new.items ≡ out.old.items ++ text) × (reported ≡ all)) }
 {
     let mut records = begun;
-    while records.push_some(alloc, Show::All, form, asked, name, out)? {}
+    while records.push_some(alloc, Show::All, form, asked, head, out)? {}
     Ok(records.reported)
 }
 
@@ -192,23 +192,23 @@ pub(crate) fn whole_review<L: LineRecords + Drop>(
     alloc: Global,
     form: Form,
     asked: &ReviewOptions<'_>,
-    name: &[u8],
+    head: &[u8],
     file: &[u8],
     begun: Records<'_, L>,
 ) -> Result<KeyReviewed, AllocError>
     ensures { IfOk result (λ r. (text : List ℕ) (all : KeyCountsValue)
-        → HasLeft L.tells All (AsLines form) (asking_of asked.entry.now) name.now file.now text all begun.entry
-        → key_review r ≡ reviewed_by form name.now file.now text all) }
+        → HasLeft L.tells All (AsLines form) (asking_of asked.entry.now) head.now file.now text all begun.entry
+        → key_review r ≡ reviewed_by form head.now file.now text all) }
 {
     let mut text = Vec::new(alloc);
     let reported = push_all(
         alloc,
         RecordForm::AsLines(form),
         asked,
-        name,
+        head,
         begun,
         &mut text,
     )?;
-    let reviewed = with_end(alloc, form, name, file, reported, text)?;
+    let reviewed = with_end(alloc, form, head, file, reported, text)?;
     Ok(reviewed)
 }

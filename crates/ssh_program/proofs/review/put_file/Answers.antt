@@ -1,15 +1,9 @@
-use Rattle.ssh_program.proofs.Imports.{rules, asking_of}
-use Rattle.ssh_program.proofs.FileLemmas.{file_reviewed, file_unread}
+use Rattle.ssh_program.proofs.Imports.{asking_of, err_from_is_err_and}
+use Rattle.ssh_review.specs.FileNames.{name_seen}
+use Rattle.ssh_program.proofs.FileLemmas.{nothing_put}
 use Rattle.ssh_program.proofs.review.put_file.Goals as goal
 
-pub returns-in-Ok-clause-reported : goal.returns-in-Ok-clause-reported
-returns-in-Ok-clause-reported g c =
-    file_reviewed c.args.kind c.args.show c.args.form (asking_of c.args.asked.now) c.args.name.now c.in-Ok.file.items c.deref.result.now
-    (g.F.Files.source_state c.args.files.now) (g.F.Files.source_state c.read_whole.new.files) (g.W.Sink.account c.args.writer.now) (g.W.Sink.account c.put_bytes_review.new.writer) c.put_bytes_review.result
-    (search rules) c.in-Ok.ensures.bytes c.in-Ok.ensures.others (search rules)
-
-pub returns-in-Err-clause-reported : goal.returns-in-Err-clause-reported
-returns-in-Err-clause-reported g c =
-    file_unread c.args.kind c.args.show c.args.form (asking_of c.args.asked.now) c.args.name.now
-    (g.F.Files.source_state c.args.files.now) (g.F.Files.source_state c.read_whole.new.files) c.in-Err.fault (g.W.Sink.account c.args.writer.now) (g.W.Sink.account c.put_unread.new.writer) c.put_unread.result
-    c.in-Err.ensures.bytes c.in-Err.ensures.others (search rules)
+pub returns-in_err-head-clause-reported : goal.returns-in_err-head-clause-reported
+returns-in_err-head-clause-reported g c =
+    let p = err_from_is_err_and c.from_residual.result c.from_residual.ensures.1 in
+    rw (p.1, p.2) (nothing_put c.args.kind c.args.show c.args.form (asking_of c.args.asked.now) (name_seen c.args.name) (g.F.Files.source_state c.args.files.now) (g.W.Sink.account c.args.writer.now))

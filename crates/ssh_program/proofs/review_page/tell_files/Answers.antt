@@ -1,23 +1,26 @@
-use Rattle.ssh_program.proofs.Imports.{◌+◌, [], drop, map, rules, ap, refl, asking_of, at_drop_more, drop_all}
+use Rattle.ssh_program.proofs.Imports.{◌∙◌, ◌∷◌, sym, ◌+◌, [], drop, map, rules, ap, refl, asking_of, at_drop_more, drop_all}
+use Rattle.ssh_review.specs.FileNames.{NameSeen}
+use Rattle.ssh_program.specs.Namings.{named, names_seen}
 use Rattle.ssh_program.proofs.PageLemmas.{reports-first, reports-last, reports-next}
 use Rattle.ssh_program.proofs.review_page.tell_files.Goals as goal
 
-pub loop-name-init : goal.loop-name-init
-loop-name-init g c =
-    reports-first c.args.kind (asking_of c.args.asked.now) (map (λ name. name.now) c.args.names.now) (g.F.Files.source_state c.args.files.now) _ (search rules)
+pub loop-word-init : goal.loop-word-init
+loop-word-init g c =
+    reports-first c.args.kind (asking_of c.args.asked.now) (names_seen c.args.names) (g.F.Files.source_state c.args.files.now) _ (search rules)
 
-pub loop-name-preserved : goal.loop-name-preserved
-loop-name-preserved g c =
-    reports-next c.args.kind (asking_of c.args.asked.now) (map (λ name. name.now) c.args.names.now) _
-    (map (λ name. name.now) (drop c.loop-name.name-index c.args.names.now)) (map (λ name. name.now) (drop (c.loop-name.name-index + 1) c.args.names.now))
-    (g.F.Files.source_state c.args.files.now) (g.F.Files.source_state c.loop-name.files) (g.F.Files.source_state c.tell_file.new.files)
-    (record { sections = c.loop-name.sections.items; register = c.loop-name.register.items; total = c.loop-name.total })
+pub loop-word-preserved : goal.loop-word-preserved
+loop-word-preserved g c =
+    reports-next c.args.kind (asking_of c.args.asked.now) (names_seen c.args.names) _
+    (map (λ word. named c.args.names.naming word.now) (drop c.loop-word.word-index c.args.names.words.now)) (map (λ word. named c.args.names.naming word.now) (drop (c.loop-word.word-index + 1) c.args.names.words.now))
+    (g.F.Files.source_state c.args.files.now) (g.F.Files.source_state c.loop-word.files) (g.F.Files.source_state c.tell_file.new.files)
+    (record { sections = c.loop-word.sections.items; register = c.loop-word.register.items; total = c.loop-word.total })
     (record { sections = c.tell_file.new.sections.items; register = c.tell_file.new.register.items; total = c.with_counted-total.result })
-    c.in_ok-reported.reported c.page_kind.result (at_drop_more (map (λ name. name.now)) c.args.names.now c.loop-name.name-index _ c.loop-name-test.true)
-    c.loop-name.invariant c.page_kind.ensures c.in_ok-reported.ensures c.with_counted-total.ensures
+    c.in_ok-reported.reported c.page_kind.result (at_drop_more (map (λ word. named c.args.names.naming word.now)) c.args.names.words.now c.loop-word.word-index _ c.loop-word-test.true
+        ∙ ap (λ (n : NameSeen). n ∷ map (λ word. named c.args.names.naming word.now) (drop (c.loop-word.word-index + 1) c.args.names.words.now)) (sym c.name_of-name.ensures))
+    c.loop-word.invariant c.page_kind.ensures c.in_ok-reported.ensures c.with_counted-total.ensures
 
 pub returns : goal.returns
 returns g c =
-    reports-last c.args.kind (asking_of c.args.asked.now) (map (λ name. name.now) c.args.names.now) (map (λ name. name.now) (drop c.loop-name.name-index c.args.names.now))
-    (g.F.Files.source_state c.args.files.now) (g.F.Files.source_state c.loop-name.files) (record { sections = c.loop-name.sections.items; register = c.loop-name.register.items; total = c.loop-name.total })
-    (ap (map (λ name. name.now)) (drop_all c.loop-name.name-index c.args.names.now c.loop-name-test.false)) c.loop-name.invariant
+    reports-last c.args.kind (asking_of c.args.asked.now) (names_seen c.args.names) (map (λ word. named c.args.names.naming word.now) (drop c.loop-word.word-index c.args.names.words.now))
+    (g.F.Files.source_state c.args.files.now) (g.F.Files.source_state c.loop-word.files) (record { sections = c.loop-word.sections.items; register = c.loop-word.register.items; total = c.loop-word.total })
+    (ap (map (λ word. named c.args.names.naming word.now)) (drop_all c.loop-word.word-index c.args.names.words.now c.loop-word-test.false)) c.loop-word.invariant

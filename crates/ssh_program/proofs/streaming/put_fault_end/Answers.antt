@@ -12,7 +12,7 @@ returns-in_err-reviewed-clause-failed g c = let p = err_from_is_err_and c.from_r
 pub returns-in_err-reviewed-clause-put : goal.returns-in_err-reviewed-clause-put
 returns-in_err-reviewed-clause-put g c =
     let p = err_from_is_err_and c.from_residual.result c.from_residual.ensures.1 in
-    rw (p.1, p.2) (put-nothing (file_fault_line c.args.form c.args.name.now c.args.fault) (review_kept (fault_review c.args.form c.args.name.now c.args.fault)) (g.W.Sink.account c.args.writer.now))
+    rw (p.1, p.2) (put-nothing (file_fault_line c.args.form c.args.head.now c.args.fault) (review_kept (fault_review c.args.form c.args.head.now c.args.fault)) (g.W.Sink.account c.args.writer.now))
 
 pub returns-in_err-put_lines-clause-failed : goal.returns-in_err-put_lines-clause-failed
 returns-in_err-put_lines-clause-failed g c =
@@ -21,7 +21,7 @@ returns-in_err-put_lines-clause-failed g c =
 pub returns-in_err-put_lines-clause-put : goal.returns-in_err-put_lines-clause-put
 returns-in_err-put_lines-clause-put g c =
     let p = err_from_is_err_and c.from_residual-in_err-put_lines.result c.from_residual-in_err-put_lines.ensures.1 in
-    let is : c.deref.result.now ≡ file_fault_line c.args.form c.args.name.now c.args.fault = c.deref.ensures.value ∙ ap (λ (r : Review). r.text) c.in_ok-reviewed.ensures in
+    let is : c.deref.result.now ≡ file_fault_line c.args.form c.args.head.now c.args.fault = c.deref.ensures.value ∙ ap (λ (r : Review). r.text) c.in_ok-reviewed.ensures in
     rw (p.1, p.2) (subst (λ (l : List ℕ). Breaks (g.W.Sink.account c.args.writer.now) (g.W.Sink.account c.put_lines.new.writer) l) is c.in_err-put_lines.ensures.err)
 
 pub returns-clause-failed : goal.returns-clause-failed
@@ -29,5 +29,5 @@ returns-clause-failed g c = none_failed (g.W.Sink.account c.args.writer.now) (g.
 
 pub returns-clause-put : goal.returns-clause-put
 returns-clause-put g c =
-    let is : c.deref.result.now ≡ file_fault_line c.args.form c.args.name.now c.args.fault = c.deref.ensures.value ∙ ap (λ (r : Review). r.text) c.in_ok-reviewed.ensures in
+    let is : c.deref.result.now ≡ file_fault_line c.args.form c.args.head.now c.args.fault = c.deref.ensures.value ∙ ap (λ (r : Review). r.text) c.in_ok-reviewed.ensures in
     (subst (λ (l : List ℕ). TakesAll (g.W.Sink.account c.args.writer.now) (g.W.Sink.account c.put_lines.new.writer) l) is c.in_ok-put_lines.ensures.ok, refl)

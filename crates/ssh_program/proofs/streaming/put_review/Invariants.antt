@@ -6,7 +6,7 @@ use Rattle.ssh_program.proofs.streaming.put_review.Given as goal
 abbrev pub invariant-loop-out : goal.invariant-loop-out
 invariant-loop-out g l =
     NoneFailed (g.W.Sink.account l.writer) × (l.out.items ≡ [])
-    × PutSoFar g.L.LineRecords.tells l.show l.form (asking_of l.asked) l.name l.fn.begun l.records (g.W.Sink.account l.fn.writer) (g.W.Sink.account l.writer)
+    × PutSoFar g.L.LineRecords.tells l.show l.form (asking_of l.asked) l.head l.fn.begun l.records (g.W.Sink.account l.fn.writer) (g.W.Sink.account l.writer)
 
 abbrev pub decreases-loop-out : goal.decreases-loop-out
 decreases-loop-out g l = length (lines_left l.records)

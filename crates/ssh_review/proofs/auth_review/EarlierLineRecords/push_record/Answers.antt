@@ -6,5 +6,5 @@ pub returns : goal.returns
 returns c =
     λ file lines line_reports h.
     let reported = c.in_ok-counts.ensures in
-    auth-next c.args.form (asking_of c.args.asked.now) c.args.place.now.name.now file c.args.place.now.number c.args.line.now lines (line_seen c.read_auth_view-view.result) c.args.self.now c.push_line.new.earlier
+    auth-next c.args.form (asking_of c.args.asked.now) c.args.place.now.head.now file c.args.place.now.number c.args.line.now lines (line_seen c.read_auth_view-view.result) c.args.self.now c.push_line.new.earlier
     c.args.out.now.items c.push_line.new.out.items line_reports c.in_ok-counts.counts c.read_auth_view-view.ensures.exact h reported.text reported.counts reported.kept reported.bytes reported.keys

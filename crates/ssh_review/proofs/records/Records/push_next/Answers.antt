@@ -5,16 +5,16 @@ use Rattle.ssh_review.proofs.records.Records.push_next.Goals as goal
 
 pub returns-in-None-clause-made : goal.returns-in-None-clause-made
 returns-in-None-clause-made g c =
-    none-made g.L.LineRecords.tells c.args.show c.args.form (asking_of c.args.asked.now) c.args.name.now c.args.self.now _ c.args.out.now.items
+    none-made g.L.LineRecords.tells c.args.show c.args.form (asking_of c.args.asked.now) c.args.head.now c.args.self.now _ c.args.out.now.items
     (c.in-None.ensures.steps).0 (c.in-None.ensures.steps).1 refl refl
 
 pub returns-in-None-clause-over : goal.returns-in-None-clause-over
 returns-in-None-clause-over g c =
-    λ none. all-made g.L.LineRecords.tells c.args.show c.args.form (asking_of c.args.asked.now) c.args.name.now _ g.met.L.LineRecords.ends (c.in-None.ensures.steps).1
+    λ none. all-made g.L.LineRecords.tells c.args.show c.args.form (asking_of c.args.asked.now) c.args.head.now _ g.met.L.LineRecords.ends (c.in-None.ensures.steps).1
 
 pub returns-in_ok-reported-in-Some-clause-made : goal.returns-in_ok-reported-in-Some-clause-made
 returns-in_ok-reported-in-Some-clause-made g c =
-    next-made g.L.LineRecords.tells c.args.show c.args.form (asking_of c.args.asked.now) c.args.name.now c.args.self.now _ (c.in-Some.number, c.in-Some.line.now) c.args.out.now.items c.push_record.new.out.items c.leave_shown.new.out.items
+    next-made g.L.LineRecords.tells c.args.show c.args.form (asking_of c.args.asked.now) c.args.head.now c.args.self.now _ (c.in-Some.number, c.in-Some.line.now) c.args.out.now.items c.push_record.new.out.items c.leave_shown.new.out.items
     c.in_ok-reported-in-Some.reported c.in-Some.ensures.steps c.in_ok-reported-in-Some.ensures
     (λ shown. c.leave_shown.ensures.shown (c.shows.ensures ∙ shown))
     (λ hidden. ◌∙◌ {b = take c.len-before.result c.push_record.new.out.items} (c.leave_shown.ensures.left_out (c.shows.ensures ∙ hidden)) (ap (λ n. take n c.push_record.new.out.items) (c.len-before.ensures ∙ c.args.out.now.ok.0)))

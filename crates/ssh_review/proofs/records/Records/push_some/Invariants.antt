@@ -4,7 +4,7 @@ use Rattle.ssh_review.proofs.records.Records.push_some.Given as goal
 
 abbrev pub invariant-loop-out : goal.invariant-loop-out
 invariant-loop-out g l =
-    MakesFront g.L.LineRecords.tells l.show l.form (asking_of l.asked) l.name l.fn.self l.self l.fn.out.items l.out.items
+    MakesFront g.L.LineRecords.tells l.show l.form (asking_of l.asked) l.head l.fn.self l.self l.fn.out.items l.out.items
     × (length (lines_left l.self) ≤ length (lines_left l.fn.self))
 
 abbrev pub decreases-loop-out : goal.decreases-loop-out
