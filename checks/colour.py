@@ -56,7 +56,7 @@ QUESTIONS = (
 )
 # Questions whose answer has no line with a colour, whatever stands in the files.
 PLAIN = (
-    review("decoys", "keys", form="json", findings="all"), ["admits", "--key", "key.pub", *ASKED, "--form", "json", "keys", "other keys"],
+    review("decoys", "keys", form="json", findings="all"), review("decoys", "keys", form="line", findings="all"), ["admits", "--key", "key.pub", *ASKED, "--form", "json", "keys", "other keys"],
     rewrite("auth", "decoys"), rewrite("known", "host decoys"), readable("decoys"), hash_names("host decoys", "salts"), show("key", "decoys"),
     show("key", "missing"), ["explain"], ["explain", "Q1"], ["denied"],
 )

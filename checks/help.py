@@ -98,7 +98,7 @@ def value_rows():
     """Values of the newer commands, and what they have to be."""
     for option, wanted in (
         ("now", "seconds since 1970-01-01 UTC"), ("zone", "a POSIX rule"), ("kind", "a format or kind"), ("rsa-minimum", "decimal digits"),
-        ("findings", "all, none, or codes"), ("form", "text or json, and of review also html"), ("show", "all, found or totals"), ("fail-on", "all, none, or codes"),
+        ("findings", "all, none, or codes"), ("form", "text or json, and of review also line or html"), ("show", "all, found or totals"), ("fail-on", "all, none, or codes"),
     ):
         given = {"kind": "auth", "now": "1", "zone": "UTC0", option: "?"}
         words = [word for name, value in given.items() for word in (f"--{name}", value)]

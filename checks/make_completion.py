@@ -22,12 +22,12 @@ BASH = TOP / "packaging" / "ssh_audit.bash"
 ZSH = TOP / "packaging" / "_ssh_audit"
 HELP = documents.CODE / "help.rt"
 # Where the words are read that an option may have as its value: of a command, or of every command that has it.
-FORMS = "ssh_program/src/review.rt", "read_form"
+FORMS = "ssh_program/src/decision_form.rt", "read_decision_form"
 LISTS = {
     "show kind": [("ssh_print/src/showing.rt", "show_kind")],
     "rewrite kind": [("ssh_program/src/rewriting.rt", "rewrite_kind")],
     "review kind": [("ssh_program/src/review.rt", "read_kind")],
-    "review form": [FORMS, ("ssh_program/src/review_form.rt", "is_page")],
+    "review form": [("ssh_program/src/review_form.rt", "read_form"), ("ssh_program/src/review_form.rt", "is_page")],
     "form": [FORMS],
     "show": [("ssh_program/src/review_show.rt", "read_show")],
     "labels": [("ssh_program/src/naming.rt", "read_naming")],

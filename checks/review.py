@@ -3,13 +3,13 @@
 
 usage: review.py [PROGRAM] [--seed N] [--files N]
 
-Worked files, word for word, in both forms. Random authorized_keys files of keys that ssh-keygen made, with options of
+Worked files, word for word, as text and as JSON; the table of each is the JSON told again. Random authorized_keys files of keys that ssh-keygen made, with options of
 all kinds and damaged lines, reviewed at several times: every record is compared with what a model in this script expects
 of the line; whoever `admits` lets in, gets in by a line that has a record, is not shadowed, not past its time, permits
 somebody, and leaves the rights that were admitted; the lines that `admits` cannot read are those that the review calls
 unreadable; each fingerprint that `ssh-keygen -lf` prints of the file is in a record; asked for by its fingerprint, each key has the records
-that the whole review has of it; both forms tell the same, and the
-JSON lines have their fields in order; what `--show` leaves out is left out of both. Then names, limits, faults, statuses and writers that fail. Random known_hosts files
+that the whole review has of it; the forms tell the same, and the
+JSON lines have their fields in order; what `--show` leaves out is left out of each form. No text of a file begins a cell as a formula. Then names, limits, faults, statuses and writers that fail. Random known_hosts files
 are compared with a model of theirs in the same way, and with the hosts that `trusts` trusts by them.
 
 The same seed gives the same files, but for the keys. Needs ssh-keygen (Debian: openssh-client) and the built program. The
@@ -38,6 +38,8 @@ DEFAULT = pathlib.Path(program.CRATE) / "out" / "ssh_audit"
 RIGHTS = ("port", "agent", "x11", "pty", "rc")
 AUTH_FIELDS = ["file", "line", "what", "type", "bits", "key", "comment", "options", "rights", "command", "source", "principals", "expires", "shadowed_by", "lets_in", "findings"]
 KNOWN_FIELDS = ["file", "line", "what", "type", "bits", "key", "comment", "names", "findings"]
+# The columns of a table: the fields with host and account, and a note.
+COLUMNS = {kind: ["file", "host", "account", *fields[1:], "note"] for kind, fields in (("auth", AUTH_FIELDS), ("known", KNOWN_FIELDS))}
 END_FIELDS = ["file", "what", "lines", "key_lines", "unreadable", "findings", "sha256", "fault", "why"]
 TOTAL_FIELDS = ["what", "format", "program", "kind", "rsa_minimum", "told", "now", "at", "zone", "files", "faults", "faults_by_code", "lines", "key_lines", "unreadable", "findings", "findings_by_code"]
 # The first moment of 2026 in UTC, which an expiry time of that day names.
@@ -204,8 +206,59 @@ HOSTS_JSON = r"""{"file":"known","line":2,"what":"key","type":"ssh-ed25519","bit
 """
 
 
+def cell(value):
+    """A value of JSON as a cell: no text begins with a byte for which a spreadsheet takes it for a formula or a quoted cell."""
+    if isinstance(value, list):
+        return "; ".join(f"{found['code']} {found['detail']}".rstrip() for found in value)
+    if isinstance(value, str):
+        return f"\\x{ord(value[0]):02x}{value[1:]}" if value[:1] in tuple('=+-@"') else value
+    return "" if value is None else str(value).lower()
+
+
+def row(made):
+    """What an object has in a table: an end and the total tell in a note what the text says of them."""
+    if is_record(made):
+        return made
+    said = end_lines(made | {"file": ""})[-1].removeprefix(": ")
+    return {field: made[field] for field in ("file", "host", "account", "what") if field in made} | {"note": said}
+
+
+def table(kind, objects):
+    """The table of a review, made of its JSON."""
+    lines = [COLUMNS[kind], *([cell(row(made).get(column)) for column in COLUMNS[kind]] for made in objects)]
+    return "".join("\t".join(line) + "\n" for line in lines).encode()
+
+
+def table_row(audit, tally, what, names, kind, stdin=b"", **asked):
+    """The table of these files is their JSON told again, with the same status."""
+    status, answer, _ = audit.run(review(*names, kind=kind, form="json", **asked), stdin)
+    found = audit.run(review(*names, kind=kind, form="line", **asked), stdin)
+    tally.check(f"{what}: the table", found, (status, table(kind, records_of(answer)[0]), b""))
+
+
+# Comments and names that begin as a formula or a quoted cell begins, and what stands in their cells.
+HOSTILE = [("=cmd|'/c calc'!A0", "\\x3dcmd|'/c calc'!A0"), ("+1", "\\x2b1"), ("-1", "\\x2d1"), ("@SUM(A1)", "\\x40SUM(A1)"), ('"a""b', '\\x22a""b'), ("a=+-@\"", 'a=+-@"'), ("a\tb", "a\\x09b"), ("\\=", "\\x5c=")]
+
+
+def table_rows(audit, tally):
+    """Tables of the worked files, of hostile texts, with labels, and of one key."""
+    (audit.room / "known").write_text(HOSTS)
+    now = 1_770_000_000
+    for what, names, kind, asked in (
+        ("worked", ["web1/ann", "web1/none"], "auth", {}), ("worked", ["odd"], "auth", {"findings": "all"}), ("worked hosts", ["known"], "known", {"findings": "all"}),
+        ("one key", ["web1/ann", "odd"], "auth", {"key": "SHA256:gXMk5B5PxTYWe+Q7kQzHGRTNDb0nrzC3BLT7EPMvKSg"}),
+        ("labels", ["=h\tann\tweb1/ann", "h\t@b\tweb1/none"], "auth", {"labels": "host,account"}),
+    ):
+        table_row(audit, tally, what, names, kind, now=now, **asked)
+    for text, wanted in HOSTILE:
+        content = f"ssh-ed25519 {program.KEY} {text}\n".encode()
+        _, answer, _ = audit.run(review("-", kind="auth", form="line", now=now), content)
+        record = answer.decode("ascii").split("\n")[1].split("\t")
+        tally.check(f"table: the comment {text!r}", (len(record), record[COLUMNS["auth"].index("comment")]), (len(COLUMNS["auth"]), wanted))
+
+
 def worked_rows(audit, tally):
-    """The worked files, in both forms."""
+    """The worked files, as text and as JSON."""
     (audit.room / "web1").mkdir()
     (audit.room / "web1" / "ann").write_text(WORKED)
     (audit.room / "odd").write_bytes(ODD)
@@ -812,13 +865,14 @@ def by_file(objects):
 
 
 def reviewed(audit, tally, what, names, contents, record_fields, **asked):
-    """Both forms of a review of these files, after their own checks: the records, and the text."""
+    """Each form of a review of these files, after its own checks: the records, and the text."""
     objects, fields = records_of(audit.run(review(*names, form="json", findings="all", **asked))[1])
     status, text, errors = audit.run(review(*names, findings="all", **asked))
     told = any(made.get("findings") for made in objects)
     tally.check(f"{what}: status", (status, errors), (1 if told else 0, b""))
     tally.check(f"{what}: fields", list(wrong_fields(objects, fields, record_fields))[:1], [])
     tally.check(f"{what}: both forms", same_text(objects, text), None)
+    table_row(audit, tally, what, names, "auth" if record_fields is AUTH_FIELDS else "known", findings="all", **{name: value for name, value in asked.items() if name != "kind"})
     tally.check(f"{what}: counts", list(counted(objects, contents))[:1], [])
     return objects, text
 
@@ -961,13 +1015,14 @@ def parts_of(text):
 
 def shown_rows(audit, tally, what, names, **asked):
     """`--show` leaves out records and ends, and nothing else: the counts and the status stay."""
-    for form in ("text", "json"):
+    for form in ("text", "json", "line"):
         for given in (names, [*names, "missing"], ["missing"]):
             objects, _ = records_of(audit.run(review(*given, form="json", **asked))[1])
             status, whole, _ = audit.run(review(*given, form=form, **asked))
             parts = parts_of(whole) if form == "text" else whole.splitlines(keepends=True)
+            header = parts.pop(0) if form == "line" else b""
             for show, keeps in SHOWN.items():
-                wanted = b"".join(part for part, made in zip(parts, objects) if keeps(made))
+                wanted = header + b"".join(part for part, made in zip(parts, objects) if keeps(made))
                 found = audit.run(review(*given, form=form, show=show, **asked))[:2]
                 tally.check(f"{what}: {show} of {len(given)} files as {form}", (len(parts), found), (len(objects), (status, wanted)))
 
@@ -1383,6 +1438,7 @@ def main():
     with tempfile.TemporaryDirectory() as folder:
         audit, draw = Program(path, pathlib.Path(folder)), random.Random(args.seed)
         worked_rows(audit, tally)
+        table_rows(audit, tally)
         found_rows(audit, tally, "auth", FOUND_OF_KEYS)
         auth_rows(audit, tally, draw, args.files)
         for row in (name_rows, many_rows, size_rows, fault_rows, writer_rows):

@@ -45,7 +45,7 @@ _ssh_audit() {
         *' --host') words='hosts' ;;
         *' --empty-principals') words='any never' ;;
         'admits --form' | 'trusts --form') words='text json' ;;
-        'review --form') words='text json html' ;;
+        'review --form') words='text json line html' ;;
         *' --findings' | *' --fail-on')
             # Codes are joined by commas, and each is named once.
             compopt -o nospace

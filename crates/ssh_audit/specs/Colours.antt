@@ -1,7 +1,7 @@
 -- Which lines have a colour on a terminal, and how they are written there (this project's rule). The sequences are those
 -- of ECMA-48, section 8.3.117 (SGR).
 use Rattle.std.specs.Prelude.{◌+◌, ◌++◌, ◌==◌, ◌||◌, ℕ, Bool, true, false, List, [], ◌∷◌, length, take, drop, Option, Some, None, codes, if◌then◌else◌, nat_eq, option_and_then, position}
-use Rattle.std.specs.List.{starts_with}
+use Rattle.std.specs.List.{list_any, starts_with}
 use Rattle.ssh_program.specs.Options.{subcommand_named}
 use Rattle.ssh_program.specs.declared.subcommand.Subcommand.{Subcommand}
 use Rattle.ssh_program.specs.declared.subcommand.Subcommand.TheVariants.{Login, Host, Sshsig, Admits, Trusts, Review}
@@ -56,10 +56,15 @@ abbrev pub named_colour : List ℕ → Option (List ℕ) → Option Colour
 named_colour line None = fault_colour line
 named_colour line (Some said) = said_colour said
 
--- yellow: a finding; no other line that begins with a blank has a colour, and no object of JSON
+-- a row of a table: no other line has a tab (9)
+abbrev pub is_row : List ℕ → Bool
+is_row line = list_any (λ c. c == 9) line
+
+-- yellow: a finding; no other line that begins with a blank has a colour, no object of JSON, and no row of a table
 abbrev pub file_colour : List ℕ → Option Colour
 file_colour line =
-    if begins line (codes "    F") then Some Yellow
+    if is_row line then None
+    else if begins line (codes "    F") then Some Yellow
     else if begins line (codes " ") || begins line (codes "{") then None
     else named_colour line (behind_name line)
 

@@ -3,7 +3,7 @@
 ghost use Rattle.std.specs.Prelude.{◌≡◌, ◌<◌, ◌++◌, IfOk, IfSome, None, OnOk, length, option_map, position};
 ghost use Rattle.std.specs.Io.{WritesAtMost};
 ghost use Rattle.std.specs.Io.KnownBytes.{Appends, WriteAppends};
-ghost use Rattle.ssh_audit.specs.Colours.{answer_colour, behind_name, begun_by, colour_at, colour_of, ended_by, fault_colour, file_colour, front_at, is_end, line_at, place_after, printed_by, printed_of, said_colour, taken};
+ghost use Rattle.ssh_audit.specs.Colours.{answer_colour, behind_name, begun_by, colour_at, colour_of, ended_by, fault_colour, file_colour, front_at, is_end, is_row, line_at, place_after, printed_by, printed_of, said_colour, taken};
 ghost use Rattle.ssh_audit.specs.declared.colour.Place.TheVariants.{Between};
 
 use ssh_program::Subcommand;
@@ -99,11 +99,21 @@ fn said_colour(said: &[u8]) -> Option<Colour>
     }
 }
 
-/// The colour of a line about files. What a trust file says stands behind a name or a blank, or in
-/// an object of JSON, so it gives no line a colour.
+/// Whether a line is a row of a table: no other line has a tab.
+fn is_row(line: &[u8]) -> bool
+    ensures { result ≡ is_row line.now }
+{
+    line.iter().any(|byte| *byte == b'\t')
+}
+
+/// The colour of a line about files. What a trust file says stands behind a name or a blank, in an
+/// object of JSON or in a row of a table, so it gives no line a colour.
 fn file_colour(line: &[u8]) -> Option<Colour>
     ensures { result ≡ file_colour line.now }
 {
+    if is_row(line) {
+        return None;
+    }
     if line.starts_with(b"    F".as_slice()) {
         return Some(Colour::Yellow);
     }

@@ -36,7 +36,7 @@ use Rattle.ssh_program.proofs.NamingLemmas.{listed-faulty, listed-many}
 use Rattle.ssh_review.specs.declared.end.FileFault.{FileFault}
 use Rattle.ssh_review.specs.declared.end.FileFault.TheVariants.{TooLong, Unread}
 use Rattle.ssh_review.specs.declared.end.Total.{Total}
-use Rattle.ssh_review.specs.Forms.{total_line}
+use Rattle.ssh_review.specs.Forms.{first_lines, total_line}
 use Rattle.ssh_review.specs.ShownRecords.{shown_auth_review, shown_known_review}
 use Rattle.ssh_review.specs.declared.show.Show.{Show}
 use Rattle.ssh_review.specs.declared.show.Show.TheVariants.{All}
@@ -50,7 +50,7 @@ use Rattle.ssh_program.specs.declared.rewriting.NewFile.{NewFile}
 use Rattle.ssh_program.specs.declared.rewriting.NewFile.TheVariants.{CanonicalAuth, CanonicalKnown, ReadableAuth}
 use Rattle.ssh_program.specs.declared.subcommand.Subcommand.{Subcommand}
 use Rattle.ssh_program.specs.declared.subcommand.Subcommand.TheVariants as command
-use Rattle.ssh_program.specs.FileReviews.{Lines, ReviewsFiles, kind_name, no_lines, review_of, telling_review, with_file}
+use Rattle.ssh_program.specs.FileReviews.{Lines, ReviewsFiles, kind_name, lines_before, review_of, telling_review, with_file}
 use Rattle.ssh_program.specs.FileRuns.{AnswersHosts, AnswersKept, AnswersLogins, AsksLines, AsksNoKey, AsksWith, FileHashed, FileReadable, FileRewritten, FilesReviewed, GrantsKept, IsPartOf, KeepsGrants, PrintsReview, PrintsReviews, ShowsAll}
 use Rattle.ssh_program.specs.Hashings.{Hashes, hashed_over}
 use Rattle.ssh_program.specs.KeyRuns.{AsksOfFiles}
@@ -446,9 +446,9 @@ review-of asked s t r room all (inr (reported, front, is)) few = let two : r.sta
 review-of asked s t r room all (inl (reported, chain, is)) few =
     let status = status-of r _ is in
     let none = faultless asked.failing reported.total (omega (arith, status, few)) in
-    let (rest, printed, each) = each-reviewed asked no_lines asked.names s t reported room chain none in
-    let whole : r.text ≡ [] ++ (rest ++ total_line asked.form (kind_name asked.kind) asked.rule asked.asking reported.total) = ap (λ (x : Response). x.text) is ∙ ap (λ (x : List ℕ). x ++ total_line asked.form (kind_name asked.kind) asked.rule asked.asking reported.total) printed.text in
-    prints-each asked r.text [] (total_line asked.form (kind_name asked.kind) asked.rule asked.asking reported.total) asked.names s rest all each whole
+    let (rest, printed, each) = each-reviewed asked (lines_before asked.form) asked.names s t reported room chain none in
+    let whole : r.text ≡ first_lines asked.form ++ (rest ++ total_line asked.form (kind_name asked.kind) asked.rule asked.asking reported.total) = ap (λ (x : Response). x.text) is ∙ ap (λ (x : List ℕ). x ++ total_line asked.form (kind_name asked.kind) asked.rule asked.asking reported.total) printed.text ∙ append_assoc (first_lines asked.form) rest (total_line asked.form (kind_name asked.kind) asked.rule asked.asking reported.total) in
+    prints-each asked r.text (first_lines asked.form) (total_line asked.form (kind_name asked.kind) asked.rule asked.asking reported.total) asked.names s rest all each whole
 
 reviewed-in : (rows : List Row) (names : List (List ℕ)) (zone : Option TimeZone) (s : SourceState) (t : Option SourceState) (r : Response) → names_needed rows ≡ Ok names
     → s.failures + length names < most_failures → ReadsZone (review_rule rows) zone → asks_page rows ≡ false → ShowsAll rows

@@ -13,9 +13,9 @@ use Rattle.ssh_print.specs.OtherLines.{OtherLines, other_login}
 use Rattle.ssh_print.specs.HostOther.{other_host}
 use Rattle.ssh_print.specs.declared.admission_text.Subject.TheVariants.{Client, Host}
 use Rattle.ssh_program.specs.declared.admission.AnswerForm.{AnswerForm}
-use Rattle.ssh_review.specs.declared.end.Form.{Form}
-use Rattle.ssh_review.specs.declared.end.Form.TheVariants.{Text}
-use Rattle.ssh_program.specs.ReviewForms.{form_of}
+use Rattle.ssh_program.specs.declared.decision_form.DecisionForm.{DecisionForm}
+use Rattle.ssh_program.specs.declared.decision_form.DecisionForm.TheVariants.{Text}
+use Rattle.ssh_program.specs.DecisionForms.{decision_form_of}
 use Rattle.ssh_program.specs.Clients.{client_spelled}
 use Rattle.ssh_print.specs.declared.showing.ShowError.{ShowError}
 use Rattle.ssh_print.specs.declared.showing.ShowError.TheVariants as shown
@@ -272,7 +272,7 @@ client-faulty rows zone =
     step-faulty _ _ (fault-faulty option.Zone zone) (λ zone.
     step-faulty _ _ (optional-faulty Any empty_principals_of option.EmptyPrincipals rows) (λ empty_principals.
     step-faulty _ _ (optional-faulty 0 (number_below (2 ^ 32)) option.RsaMinimum rows) (λ rsa_minimum.
-    step-faulty _ _ (optional-faulty Text form_of option.Form rows) (λ form.
+    step-faulty _ _ (optional-faulty Text decision_form_of option.Form rows) (λ form.
     step-faulty _ _ (needed-faulty option.Address rows) (λ address. none-faulty _)))))))
 
 admits-faulty : (rows : List Row) (zone : Option TimeZone) → IsFaulty (admits_spelled rows zone)
@@ -290,16 +290,16 @@ trusts-faulty rows =
     step-faulty _ _ (optional-faulty usual_port (number_below (2 ^ 16)) option.Port rows) (λ port.
     step-faulty _ _ (optional-faulty Any empty_principals_of option.EmptyPrincipals rows) (λ empty_principals.
     step-faulty _ _ (optional-faulty 0 (number_below (2 ^ 32)) option.RsaMinimum rows) (λ rsa_minimum.
-    step-faulty _ _ (optional-faulty Text form_of option.Form rows) (λ form.
+    step-faulty _ _ (optional-faulty Text decision_form_of option.Form rows) (λ form.
     step-faulty _ _ (needed-faulty option.Host rows) (λ host.
     step-faulty _ _ (names-faulty rows) (λ names. none-faulty _))))))))
 
 -- the names are those of the options, and of each offer a login is made
 abbrev AsksLogin : List Row → KeyAsked → Type 0
-AsksLogin rows a = (names_needed rows ≡ Ok a.names) × ((o : Offered) → (form : Form) × (rule : List ℕ) × (q : LoginAsked) × (q.offered ≡ o.blob) × (a.asks o ≡ login_asking form rule q))
+AsksLogin rows a = (names_needed rows ≡ Ok a.names) × ((o : Offered) → (form : DecisionForm) × (rule : List ℕ) × (q : LoginAsked) × (q.offered ≡ o.blob) × (a.asks o ≡ login_asking form rule q))
 
 abbrev AsksHost : List Row → KeyAsked → Type 0
-AsksHost rows a = (names_needed rows ≡ Ok a.names) × ((o : Offered) → (form : Form) × (q : HostCheck) × (q.offered ≡ o.blob) × (a.asks o ≡ host_asking form q))
+AsksHost rows a = (names_needed rows ≡ Ok a.names) × ((o : Offered) → (form : DecisionForm) × (q : HostCheck) × (q.offered ≡ o.blob) × (a.asks o ≡ host_asking form q))
 
 admits-asks : (rows : List Row) (zone : Option TimeZone) (a : KeyAsked) → admits_spelled rows zone ≡ Ok a → AsksLogin rows a
 unfolding admits_spelled
@@ -317,7 +317,7 @@ trusts-asks rows =
     step-any (AsksHost rows) (value_or usual_port (number_below (2 ^ 16)) option.Port rows) _ (λ port.
     step-any (AsksHost rows) (value_or Any empty_principals_of option.EmptyPrincipals rows) _ (λ empty_principals.
     step-any (AsksHost rows) (value_or 0 (number_below (2 ^ 32)) option.RsaMinimum rows) _ (λ rsa_minimum.
-    step-any (AsksHost rows) (value_or Text form_of option.Form rows) _ (λ form.
+    step-any (AsksHost rows) (value_or Text decision_form_of option.Form rows) _ (λ form.
     step-any (AsksHost rows) (needed option.Host rows) _ (λ host.
     step-gives (λ names. names_needed rows ≡ Ok names) (AsksHost rows) (names_needed rows) _ (λ names h. h) (λ names is.
     λ a h. subst (AsksHost rows) (ok-same {A = KeyAsked} {B = Response} _ a h) (is, λ o. (form, _, refl, refl))))))))))

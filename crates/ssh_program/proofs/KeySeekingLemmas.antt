@@ -1,5 +1,5 @@
 -- From what a file gives to its review for one key, whose text is written, from the key's file to the fingerprint, and from both to the response.
-use Rattle.ssh_program.proofs.Imports.{◌≡◌, ◌∙◌, ◌<◌, ◌≤◌, ◌++◌, [], ℕ, Bool, true, false, List, length, Option, Some, None, Result, Ok, Err, refl, sym, ap, subst, inl, inr, IfOk, lt-ltb, Asking, TellsFile, IfTells, SourceState, bytes_at, most_failures, after_whole, top_line, FailsLoad, IsLeft, IsTooLong, KeepsOthers, NoReadFailed, ReadToEnd, within_limit, ReadError, left-none, read-all, left-end, no-end, over_limit, TooLong, Form, AsLines, ReviewKind, Auth, Known, file_limit, ShowError, IsFaultOf, Offered, line-offered, shown_offer_in, Account, Alike, files_same, end-same, file-alike, keeps-same, none-failed, one-failed, RespondsTo}
+use Rattle.ssh_program.proofs.Imports.{◌≡◌, ◌∙◌, ◌<◌, ◌≤◌, ◌++◌, [], ℕ, Bool, true, false, List, length, Option, Some, None, Result, Ok, Err, refl, sym, ap, subst, inl, inr, IfOk, lt-ltb, Asking, TellsFile, IfTells, SourceState, bytes_at, most_failures, after_whole, top_line, FailsLoad, IsLeft, IsTooLong, KeepsOthers, NoReadFailed, ReadToEnd, within_limit, ReadError, left-none, left-end, no-end, over_limit, TooLong, Form, AsLines, ReviewKind, Auth, Known, file_limit, ShowError, IsFaultOf, Offered, line-offered, shown_offer_in, Account, Alike, files_same, end-same, file-alike, keeps-same, none-failed, one-failed, RespondsTo}
 use Rattle.ssh_files.specs.declared.read.ReadError.TheVariants as fault
 use Rattle.ssh_print.specs.Responses.{Response as Shown}
 use Rattle.ssh_review.specs.KeyReviews.{host_whole_key_review, key_fault_review, whole_key_review}
@@ -11,7 +11,7 @@ use Rattle.ssh_review.specs.HostKeyRecords.{host_key_counts_of, host_key_records
 use Rattle.ssh_review.specs.KeyRecords.{key_counts_of, key_records_of}
 use Rattle.ssh_review.specs.FileNames.{NameSeen, file_head}
 use Rattle.ssh_files.specs.declared.files.UnreadCause.{UnreadCause}
-use Rattle.ssh_files.specs.SourceState.{bytes_of, cause_at, cause_of, given_at}
+use Rattle.ssh_files.specs.SourceState.{bytes_of, cause_at, given_at}
 use Rattle.ssh_files.proofs.SourceLemmas.{given-all, given-none}
 use Rattle.ssh_review.specs.declared.end.FileFault.TheVariants.{Unread}
 use Rattle.ssh_review.specs.declared.show.Show.{Show}
@@ -19,9 +19,9 @@ use Rattle.ssh_findings.specs.declared.code.Code.{Code}
 use Rattle.ssh_program.specs.declared.streaming.FileReported.{FileReported}
 use Rattle.ssh_program.specs.declared.streaming.Stop.{Stop}
 use Rattle.ssh_program.specs.declared.streaming.Stop.TheVariants as stop
-use Rattle.ssh_program.specs.FileReviews.{TextPut, TextWritten, UnreadPut, no_lines, telling_review, with_file}
+use Rattle.ssh_program.specs.FileReviews.{TextPut, TextWritten, UnreadPut, lines_before, telling_review, with_file}
 use Rattle.ssh_program.specs.FingerprintValues.{is_fingerprint}
-use Rattle.ssh_program.specs.KeySeeking.{ReviewsFor, SeeksBy, SeeksKey, SeeksKeyOfFile, fingerprint_or_fault, key_review_kept, key_review_of, key_review_over, no_key_lines, or_key_fault, spelled_fingerprint, telling_key_review, with_key_file}
+use Rattle.ssh_program.specs.KeySeeking.{ReviewsFor, SeeksBy, SeeksKey, SeeksKeyOfFile, fingerprint_or_fault, key_review_kept, key_review_of, key_review_over, key_lines_before, or_key_fault, spelled_fingerprint, telling_key_review, with_key_file}
 use Rattle.ssh_program.specs.Printing.{WritesAnswer}
 use Rattle.ssh_program.proofs.AnsweredLemmas.{spelled_same}
 use Rattle.ssh_program.proofs.FileLemmas.{both_in, kept-and-cause, within-false}
@@ -170,8 +170,8 @@ key_file_unsought view kind form rule asking names key (Some s) t e (Ok r) fails
 
 seeks-same : (kind : ReviewKind) (form : Form) (rule : List ℕ) (asking : Asking) (names : List NameSeen) (sought : List ℕ) (a b : SourceState) (u : Option SourceState) (r : Shown) → Alike a b
     → SeeksKey kind form rule asking names sought a u r → SeeksKey kind form rule asking names sought b u r
-seeks-same kind form rule asking names sought a b u r e (inl (reported, h, is)) = inl (reported, files_same with_key_file (telling_key_review sought kind form asking) no_key_lines names a b u reported e h, is)
-seeks-same kind form rule asking names sought a b u r e (inr early) = inr (ends_same with_key_file (telling_key_review sought kind form asking) no_key_lines (λ reported. reported.lines.text) (λ x. x.file.text) names a b r e early)
+seeks-same kind form rule asking names sought a b u r e (inl (reported, h, is)) = inl (reported, files_same with_key_file (telling_key_review sought kind form asking) (key_lines_before form) names a b u reported e h, is)
+seeks-same kind form rule asking names sought a b u r e (inr early) = inr (ends_same with_key_file (telling_key_review sought kind form asking) (key_lines_before form) (λ reported. reported.lines.text) (λ x. x.file.text) names a b r e early)
 
 file-same : (kind : ReviewKind) (form : Form) (rule : List ℕ) (asking : Asking) (names : List NameSeen) (key : List ℕ) (a b : SourceState) (u : Option SourceState) (r : Shown) → Alike a b
     → SeeksKeyOfFile kind form rule asking names key a u r → SeeksKeyOfFile kind form rule asking names key b u r
@@ -192,6 +192,6 @@ by-same false kind form rule asking names key a b u r e h = file-same kind form 
 
 pub reviews_for_same : (key : Option (List ℕ)) (kind : ReviewKind) (show : Show) (failing : List Code) (form : Form) (rule : List ℕ) (asking : Asking) (names : List NameSeen) (a b : SourceState) (u : Option SourceState) (r : Shown) → Alike a b
     → ReviewsFor key kind show failing form rule asking names a u r → ReviewsFor key kind show failing form rule asking names b u r
-reviews_for_same None kind show failing form rule asking names a b u r e (inl (reported, h, is)) = inl (reported, files_same with_file (telling_review kind show form asking) no_lines names a b u reported e h, is)
-reviews_for_same None kind show failing form rule asking names a b u r e (inr early) = inr (ends_same with_file (telling_review kind show form asking) no_lines (λ reported. reported.text) (λ x. x.text) names a b r e early)
+reviews_for_same None kind show failing form rule asking names a b u r e (inl (reported, h, is)) = inl (reported, files_same with_file (telling_review kind show form asking) (lines_before form) names a b u reported e h, is)
+reviews_for_same None kind show failing form rule asking names a b u r e (inr early) = inr (ends_same with_file (telling_review kind show form asking) (lines_before form) (λ reported. reported.text) (λ x. x.text) names a b r e early)
 reviews_for_same (Some key) kind show failing form rule asking names a b u r e h = by-same (is_fingerprint key) kind form rule asking names key a b u r e h

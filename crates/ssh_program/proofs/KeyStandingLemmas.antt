@@ -8,7 +8,7 @@ use Rattle.ssh_keys.specs.Fingerprint.{digest_text_of}
 use Rattle.ssh_print.specs.Showing.{show_fault_response}
 use Rattle.ssh_print.specs.declared.showing.ShowError.TheVariants as show
 use Rattle.ssh_review.proofs.KeyListingLemmas.{host-key-nowhere, host-key-stands, key-nowhere, key-stands}
-use Rattle.ssh_review.specs.Forms.{total_line}
+use Rattle.ssh_review.specs.Forms.{first_lines, total_line}
 use Rattle.ssh_review.specs.KeyReviews.{KeyReview, host_whole_key_review, key_fault_review, whole_key_review}
 use Rattle.ssh_files.specs.declared.files.UnreadCause.{UnreadCause}
 use Rattle.ssh_files.specs.SourceState.{bytes_of, cause_at, given_at}
@@ -24,7 +24,7 @@ use Rattle.ssh_program.specs.FileRuns.{IsPartOf}
 use Rattle.ssh_program.specs.FingerprintValues.{fingerprint_bytes, is_fingerprint}
 use Rattle.ssh_program.specs.KeyRuns.{AsksOfFiles, EachFile, SomeFile}
 use Rattle.ssh_program.specs.FileReviews.{kind_name}
-use Rattle.ssh_program.specs.KeySeeking.{KeyLines, SeeksBy, SeeksKey, SeeksKeyOfFile, fingerprint_or_fault, key_review_of, key_status, no_key_lines, or_key_fault, spelled_fingerprint, telling_key_review, with_key_file}
+use Rattle.ssh_program.specs.KeySeeking.{KeyLines, SeeksBy, SeeksKey, SeeksKeyOfFile, fingerprint_or_fault, key_review_of, key_status, key_lines_before, or_key_fault, spelled_fingerprint, telling_key_review, with_key_file}
 use Rattle.ssh_program.specs.KeyStanding.{AsksForKey, GivesBy, StandsIn, StandsNowhereIn, KeyNowhere, KeySought, KeyStanding, PrintsKeyReviews, whole_for_key}
 use Rattle.ssh_program.specs.OfferPrints.{offer_print}
 use Rattle.ssh_program.specs.ReviewZones.{review_rule}
@@ -213,11 +213,11 @@ found-of asked sought s t r room (inr (reported, front, is)) few = let two : r.s
 found-of asked sought s t r room (inl (reported, chain, is)) few =
     let status = status-of r _ is in
     let none = status-faultless reported.lines.total reported.stands (omega (arith, status, few)) in
-    let (rest, stands, printed, each) = each-sought asked sought no_key_lines asked.names s t reported room chain none in
-    let whole : r.text ≡ [] ++ (rest ++ total_line asked.form (kind_name asked.kind) asked.rule asked.asking reported.lines.total) = ap (λ (x : Response). x.text) is ∙ ap (λ (x : List ℕ). x ++ total_line asked.form (kind_name asked.kind) asked.rule asked.asking reported.lines.total) printed.text in
+    let (rest, stands, printed, each) = each-sought asked sought (key_lines_before asked.form) asked.names s t reported room chain none in
+    let whole : r.text ≡ first_lines asked.form ++ (rest ++ total_line asked.form (kind_name asked.kind) asked.rule asked.asking reported.lines.total) = ap (λ (x : Response). x.text) is ∙ ap (λ (x : List ℕ). x ++ total_line asked.form (kind_name asked.kind) asked.rule asked.asking reported.lines.total) printed.text ∙ append_assoc (first_lines asked.form) rest (total_line asked.form (kind_name asked.kind) asked.rule asked.asking reported.lines.total) in
     let standing : reported.stands ≡ stands = printed.standing in
     record {
-      reviews = prints-each asked sought r.text [] (total_line asked.form (kind_name asked.kind) asked.rule asked.asking reported.lines.total) asked.names s rest stands each whole;
+      reviews = prints-each asked sought r.text (first_lines asked.form) (total_line asked.form (kind_name asked.kind) asked.rule asked.asking reported.lines.total) asked.names s rest stands each whole;
       nowhere = λ done. nowhere-in asked sought asked.names s rest stands each (sym standing ∙ status-nowhere reported.lines.total reported.stands (sym status ∙ done));
       stands = λ done. stands-in asked sought asked.names s rest stands each (sym standing ∙ status-stands reported.lines.total reported.stands (sym status ∙ done));
     }

@@ -1,6 +1,6 @@
 -- The page of a review: what each file has on it, one after the other, and the whole.
-use Rattle.ssh_program.proofs.Imports.{◌≡◌, ◌∙◌, ◌≤◌, ◌++◌, ℕ, Bool, true, false, List, [], ◌∷◌, length, Option, Some, None, Result, Ok, Err, refl, sym, ap, subst, inl, inr, IfOk, OnOk, arith, lt-ltb, append_assoc, flat_map-append, Account, Asking, TellsFile, TellsFiles, IfTells, SourceState, bytes_at, after_whole, FailsLoad, IsLeft, IsTooLong, KeepsOthers, within_limit, ReadError, left-none, read-all, left-end, no-end, over_limit, TooLong, ReviewKind, file_limit, Leads, leads_end, leads_next, WritesResponse}
-use Rattle.std.specs.Prelude.{nat_lt, if◌then◌else◌}
+use Rattle.ssh_program.proofs.Imports.{◌≡◌, ◌∙◌, ◌≤◌, ◌++◌, ℕ, Bool, List, [], ◌∷◌, length, Option, Some, None, Result, Ok, Err, refl, sym, ap, subst, inl, inr, IfOk, OnOk, lt-ltb, append_assoc, flat_map-append, Account, Asking, TellsFile, IfTells, SourceState, bytes_at, after_whole, FailsLoad, IsLeft, IsTooLong, KeepsOthers, within_limit, ReadError, left-none, left-end, no-end, over_limit, TooLong, ReviewKind, file_limit, Leads, leads_end, leads_next, WritesResponse}
+use Rattle.std.specs.Prelude.{if◌then◌else◌}
 use Rattle.ssh_files.specs.declared.read.ReadError.TheVariants as read
 use Rattle.ssh_files.proofs.TurnLemmas.{leads_begin}
 use Rattle.ssh_findings.specs.declared.code.Code.{Code}
@@ -14,7 +14,7 @@ use Rattle.ssh_page.specs.declared.header.PageTotals.{PageTotals}
 use Rattle.ssh_page.specs.declared.mend.CodeCount.{CodeCount}
 use Rattle.ssh_print.specs.Responses.{Response as Shown}
 use Rattle.ssh_files.specs.declared.files.UnreadCause.{UnreadCause}
-use Rattle.ssh_files.specs.SourceState.{bytes_of, cause_at, cause_of, given_at}
+use Rattle.ssh_files.specs.SourceState.{bytes_of, cause_at, given_at}
 use Rattle.ssh_files.proofs.SourceLemmas.{given-all, given-none}
 use Rattle.ssh_review.specs.declared.end.FileFault.{FileFault}
 use Rattle.ssh_review.specs.declared.end.FileFault.TheVariants.{Unread}
@@ -24,7 +24,8 @@ use Rattle.ssh_review.specs.FileNames.{NameSeen, shown_name}
 use Rattle.ssh_review.specs.PageFiles.{unread_row, unread_section}
 use Rattle.ssh_program.specs.declared.review_page.MadePage.{MadePage}
 use Rattle.ssh_program.specs.declared.streaming.FileReported.{FileReported}
-use Rattle.ssh_program.specs.PageReviews.{FileGiven, IsReported, PageMarks, PageSofar, PageReported, ReviewsPage, fault_kept, fault_read, given_bytes, given_kept, made_response, no_page, page_kept, page_kind, page_response, page_rest, parts_response, row_by, section_by, telling_given, with_given, within}
+use Rattle.ssh_program.specs.PageReviews.{FileGiven, IsReported, PageMarks, PageSofar, PageReported, ReviewsPage, fault_kept, fault_read, given_bytes, given_kept, made_response, no_page, page_kept, page_response, page_rest, parts_response, row_by, section_by, telling_given, with_given, within}
+use Rattle.ssh_program.specs.FileReviews.{file_kind}
 use Rattle.ssh_program.specs.PageFronts.{codes_found, page_front, page_question, page_totals}
 use Rattle.ssh_program.specs.Printing.{WritesAnswer}
 use Rattle.ssh_program.specs.Totals.{with_counted}
@@ -127,12 +128,12 @@ reports-first kind asking names (Some s) k is = λ counts. (no_page, is, leads_b
 
 -- with one more file
 kept-more : (kind : ReviewKind) (asking : Asking) (sofar : PageSofar) (f : FileGiven) (k : PageMarks) (sections register : List ℕ) (reported : FileReported) → k ≡ page_kept sofar
-    → IsReported (page_kind kind) k.total.files asking f k.sections sections k.register register reported
+    → IsReported (file_kind kind) k.total.files asking f k.sections sections k.register register reported
     → record { sections = sections; register = register; total = with_counted k.total reported.counts reported.fault } ≡ page_kept (with_given kind asking sofar f)
 kept-more kind asking sofar f k sections register reported is (section, row, kept) = rw (section, row, kept, is) refl
 
 pub reports-next : (kind : ReviewKind) (asking : Asking) (names : List NameSeen) (name : NameSeen) (left rest : List NameSeen) (o now next : Option SourceState) (k after : PageMarks) (reported : FileReported) (like : FileKind)
-    → left ≡ name ∷ rest → IfTells o (λ s. ReportedSoFar kind asking names left s now k) → like ≡ page_kind kind
+    → left ≡ name ∷ rest → IfTells o (λ s. ReportedSoFar kind asking names left s now k) → like ≡ file_kind kind
     → (given : FileGiven) × IfTells now (λ m. TellsFile telling_given name m next given) × IsReported like k.total.files asking given k.sections after.sections k.register after.register reported
     → after.total ≡ with_counted k.total reported.counts reported.fault
     → IfTells o (λ s. ReportedSoFar kind asking names rest s next after)
@@ -180,7 +181,7 @@ pub page-is : (failing : List Code) (title : List ℕ) (kind : ReviewKind) (rule
 page-is failing title kind rule asking p =
     let words = total_words rule asking p.total in
     let body = marks p.sections ++ page_rest (marks p.register) words in
-    let q = page_question (page_kind kind) rule asking in
+    let q = page_question (file_kind kind) rule asking in
     let found = codes_found p.total.counts.by_code in
     let t = page_totals p.total found in
     let text : page (page_front title q t found) ++ page body ≡ page (marks (whole_page title q t found p.sections p.register words)) =

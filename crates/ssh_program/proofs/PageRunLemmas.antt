@@ -1,5 +1,5 @@
 -- A run of `review --form html` that ends without a fault printed a page with the sections of all files.
-use Rattle.ssh_program.proofs.Imports.{◌≡◌, ◌∙◌, ◌<◌, ◌≤◌, ◌+◌, ◌++◌, ℕ, Bool, true, false, List, [], ◌∷◌, length, Option, Some, None, Result, Ok, Err, ap, sym, refl, subst, inl, inr, arith, cond, append-nil, append_assoc, flat_map-append, Row, TimeZone, IfTells, SourceState, bytes_at, most_failures, file_limit, TellsFile, TellsFiles, KeepsOthers, ReadsZone, Response, Account, WritesResponse, RespondsTo, source_of, ReviewCall, FormAsked, as_page, TooLong, if◌then◌else◌}
+use Rattle.ssh_program.proofs.Imports.{◌≡◌, ◌∙◌, ◌<◌, ◌≤◌, ◌+◌, ◌++◌, ℕ, Bool, true, false, List, [], ◌∷◌, length, Option, Some, None, Result, Ok, Err, ap, sym, refl, subst, inl, inr, arith, append-nil, append_assoc, flat_map-append, Row, TimeZone, IfTells, SourceState, bytes_at, most_failures, file_limit, TellsFile, TellsFiles, KeepsOthers, ReadsZone, Response, Account, WritesResponse, RespondsTo, source_of, ReviewCall, FormAsked, TooLong, if◌then◌else◌}
 use Rattle.std.specs.Prelude.{nat_lt}
 use Rattle.ssh_page.specs.Documents.{marks}
 use Rattle.ssh_page.specs.Expanding.{mark_html, page}
@@ -14,13 +14,13 @@ use Rattle.ssh_review.specs.PageFiles.{file_section}
 use Rattle.ssh_program.specs.declared.review.ReviewKind.{ReviewKind}
 use Rattle.ssh_program.specs.declared.review.ReviewKind.TheVariants.{Auth, Known}
 use Rattle.ssh_program.specs.declared.subcommand.Subcommand.TheVariants as command
-use Rattle.ssh_program.specs.FileRuns.{IsPartOf}
 use Rattle.ssh_program.specs.KeyRuns.{AsksOfFiles}
-use Rattle.ssh_program.specs.PageReviews.{FileGiven, PageSofar, ReviewsPage, given_bytes, given_kept, no_page, page_kept, page_kind, page_response, page_rest, parts_response, section_by, telling_given, with_given, within}
-use Rattle.ssh_program.specs.PageRuns.{AsksPage, FilesOnPage, PrintsSection, PrintsSections, ShowsRows}
+use Rattle.ssh_program.specs.PageReviews.{FileGiven, PageSofar, ReviewsPage, given_bytes, given_kept, no_page, page_rest, section_by, telling_given, with_given}
+use Rattle.ssh_program.specs.FileReviews.{file_kind}
+use Rattle.ssh_program.specs.PageRuns.{AsksPage, FilesOnPage, PrintsSections, ShowsRows}
 use Rattle.ssh_program.specs.PageFronts.{front_of}
 use Rattle.ssh_program.specs.ReviewZones.{review_rule}
-use Rattle.ssh_program.specs.Spelled.{PageAsked, ReviewsAs, on_page, review_spelled}
+use Rattle.ssh_program.specs.Spelled.{PageAsked, ReviewsAs, review_spelled}
 use Rattle.ssh_program.specs.Spelling.{given, names_needed}
 use Rattle.ssh_program.specs.Totals.{counted, fault_count}
 use Rattle.ssh_program.specs.declared.args.ArgName.TheVariants as option
@@ -42,7 +42,7 @@ some-fault : (fault : FileFault) → ◌≡◌ {A = Option FileFault} (Some faul
 some-fault fault h = cc
 
 abbrev fault-of : ReviewKind → PageAsked → FileGiven → Option FileFault
-fault-of kind asked f = (given_kept (page_kind kind) asked.asking f.bytes).fault
+fault-of kind asked f = (given_kept (file_kind kind) asked.asking f.bytes).fault
 
 given-file : (kind : ReviewKind) (asked : PageAsked) (name : NameSeen) (file : List ℕ) (s : SourceState) (f : FileGiven) (long : Bool) → bytes_at s name.path ≡ Some file
     → f ≡ record { name = shown_name name; bytes = if long then Err TooLong else Ok file } → fault-of kind asked f ≡ None → GivenAs name s f
@@ -69,7 +69,7 @@ abbrev EachShown : PageAsked → ℕ → List NameSeen → SourceState → List 
 EachShown asked number [] s rest = rest ≡ []
 EachShown asked number (name ∷ names) s rest =
     (file : List ℕ) × (bytes_at s name.path ≡ Some file)
-    × ((m : SourceState) × (more : List ℕ) × KeepsOthers name.path s (Some m) × (rest ≡ marks (file_section (page_kind asked.kind) number asked.asking (shown_name name) file) ++ more)
+    × ((m : SourceState) × (more : List ℕ) × KeepsOthers name.path s (Some m) × (rest ≡ marks (file_section (file_kind asked.kind) number asked.asking (shown_name name) file) ++ more)
     × EachShown asked (counted number 1) names m more)
 
 -- the sections of these files follow those so far
@@ -95,9 +95,9 @@ each-shown asked sofar (name ∷ names) s t reported room (m, f, one, more) none
     let (rest, shown, each) = each-shown asked next names m t reported left (more (omega (arith, left))) none in
     let (before, here) = none-counted sofar.total.faults (fault_count (fault-of asked.kind asked f)) shown.faultless in
     let there = given-as asked.kind asked name s m f one (some-faults (fault-of asked.kind asked f) here) in
-    let own = marks (file_section (page_kind asked.kind) sofar.total.files asked.asking (shown_name name) there.file) in
+    let own = marks (file_section (file_kind asked.kind) sofar.total.files asked.asking (shown_name name) there.file) in
     let section : marks next.sections ≡ marks sofar.sections ++ own =
-    ap (λ (x : FileGiven). marks sofar.sections ++ marks (section_by (page_kind asked.kind) sofar.total.files asked.asking x.name x.bytes)) there.is in (
+    ap (λ (x : FileGiven). marks sofar.sections ++ marks (section_by (file_kind asked.kind) sofar.total.files asked.asking x.name x.bytes)) there.is in (
       own ++ rest,
       record {
         sections = shown.sections ∙ (ap (λ (x : List ℕ). x ++ rest) section ∙ append_assoc (marks sofar.sections) own rest);
@@ -115,8 +115,8 @@ prints-sections : (asked : PageAsked) (number : ℕ) (text before after : List �
     → text ≡ before ++ (page rest ++ after) → PrintsSections asked number text names s
 prints-sections asked number text before after [] s rest h is = tt
 prints-sections asked number text before after (name ∷ names) s rest (file, there, (m, more, keeps, are, each)) is =
-    let own = page (marks (file_section (page_kind asked.kind) number asked.asking (shown_name name) file)) in
-    let both : page rest ≡ own ++ page more = ap page are ∙ flat_map-append mark_html (marks (file_section (page_kind asked.kind) number asked.asking (shown_name name) file)) more in
+    let own = page (marks (file_section (file_kind asked.kind) number asked.asking (shown_name name) file)) in
+    let both : page rest ≡ own ++ page more = ap page are ∙ flat_map-append mark_html (marks (file_section (file_kind asked.kind) number asked.asking (shown_name name) file)) more in
     let parts : text ≡ before ++ (own ++ (page more ++ after)) = is ∙ (ap (λ (x : List ℕ). before ++ (x ++ after)) both ∙ ap (λ (x : List ℕ). before ++ x) (append_assoc own (page more) after)) in
     let later : text ≡ (before ++ own) ++ (page more ++ after) = parts ∙ sym (append_assoc before own (page more ++ after)) in
     ((file, there, ((before, page more ++ after, parts), shows-rows asked.kind asked number file)), (m, keeps, prints-sections asked (counted number 1) text (before ++ own) after names m more each later))
@@ -130,7 +130,7 @@ page-of asked s t r room (reported, chain, is) few =
     let none = faultless asked.failing reported.total (omega (arith, status, few)) in
     let (rest, shown, each) = each-shown asked no_page asked.names s t reported room chain none in
     let last = page_rest (marks reported.register) (total_words asked.rule asked.asking reported.total) in
-    let front = page (front_of asked.title (page_kind asked.kind) asked.rule asked.asking reported.total) in
+    let front = page (front_of asked.title (file_kind asked.kind) asked.rule asked.asking reported.total) in
     let body : page (marks reported.sections ++ last) ≡ page rest ++ page last = flat_map-append mark_html (marks reported.sections) last ∙ ap (λ (x : List ℕ). page x ++ page last) shown.sections in
     let whole : r.text ≡ front ++ (page rest ++ page last) =
     ap (λ (x : Response). x.text) is ∙ (sym (ap (λ (x : Response). x.text) (page-is asked.failing asked.title asked.kind asked.rule asked.asking reported)) ∙ ap (λ (x : List ℕ). front ++ x) body) in

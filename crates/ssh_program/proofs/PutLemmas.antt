@@ -1,12 +1,12 @@
 -- A text that is written as it is made, and the review that it is of.
-use Rattle.ssh_program.proofs.Imports.{◌≡◌, ◌∙◌, ◌+◌, ◌<◌, ◌⊎◌, ◌++◌, ℕ, List, [], ◌∷◌, Option, None, Result, Ok, Err, ap, sym, refl, inl, inr, length, arith, append_assoc, append-nil, length-append, Account, Breaks, TakesAll, TakesUpTo, Asking, IfTells, SourceState, TellsFile, Form, RecordForm, AsLines}
+use Rattle.ssh_program.proofs.Imports.{◌≡◌, ◌∙◌, ◌<◌, ◌⊎◌, ◌++◌, ℕ, List, [], ◌∷◌, Option, None, Result, Ok, Err, ap, sym, refl, inl, inr, length, arith, append_assoc, append-nil, length-append, Account, Breaks, TakesAll, TakesUpTo, Asking, IfTells, SourceState, TellsFile, Form, RecordForm, AsLines}
 use Rattle.ssh_files.specs.FilesInTurn.{Telling}
 use Rattle.ssh_review.proofs.ShownRecordLemmas.{no-records}
 use Rattle.ssh_review.specs.EndObjects.{end_object}
 use Rattle.ssh_review.specs.Forms.{end_line}
 use Rattle.ssh_review.specs.Making.{AreWholeLines, HasLeft, IsAllMade, MakesFront}
 use Rattle.ssh_review.specs.declared.end.Counts.{Counts}
-use Rattle.ssh_review.specs.declared.end.Form.TheVariants.{Json, Text}
+use Rattle.ssh_review.specs.declared.end.Form.TheVariants.{Json, Line, Text}
 use Rattle.ssh_review.specs.declared.key_review.KeyCounts.{KeyCounts}
 use Rattle.ssh_review.specs.declared.records.Records.{Records}
 use Rattle.ssh_review.specs.declared.show.Show.{Show}
@@ -28,6 +28,7 @@ end-some : (form : Form) (name : List ℕ) (counts : Counts) (digest : List ℕ)
 unfolding end_object
 end-some Text name counts digest = longer _ (10 ∷ []) (omega arith)
 end-some Json name counts digest = longer _ (125 ∷ 10 ∷ []) (omega arith)
+end-some (Line kind) name counts digest = longer _ (10 ∷ []) (omega arith)
 
 -- ---- records that are written as they are made
 

@@ -1,5 +1,5 @@
 -- How the answer to `review` is printed, by its options.
-use Rattle.ssh_program.proofs.Imports.{◌≡◌, ◌∙◌, ◌^◌, ℕ, Bool, true, false, List, Option, Some, None, Result, Ok, Err, ap, refl, sym, subst, Row, Text, TimeZone, Response, usage_response, Form, FormAsked, as_lines, as_page, form_of, ReviewCall, review_kind_of, review_form, usual_minimum, codes_in, default_codes, number_below, given, names_needed, or_fault, value, value_or, if◌then◌else◌}
+use Rattle.ssh_program.proofs.Imports.{◌≡◌, ◌∙◌, ◌^◌, Bool, true, false, List, Option, Some, None, Result, Ok, Err, ap, refl, sym, subst, Row, Text, TimeZone, Response, usage_response, Form, FormAsked, as_lines, as_page, form_of, ReviewCall, review_kind_of, review_form, usual_minimum, codes_in, default_codes, number_below, given, names_needed, or_fault, value, value_or, if◌then◌else◌}
 use Rattle.ssh_review.specs.declared.end.Form.TheVariants as lines
 use Rattle.ssh_program.specs.declared.args.ArgName.TheVariants as option
 use Rattle.ssh_program.specs.declared.review.ReviewKind.{ReviewKind}
@@ -25,9 +25,9 @@ show-by-faulty None key = none-faulty All
 show-by-faulty (Some word) (Some key) = or-faulty {A = Show} None usage_response refl
 show-by-faulty (Some word) None = fault-faulty option.Show (show_of word)
 
-shown-faulty : (rows : List Row) → IsFaulty (lines_shown rows)
-shown-faulty rows =
-    step-faulty _ _ (optional-faulty lines.Text form_of option.Form rows) (λ form.
+shown-faulty : (kind : ReviewKind) (rows : List Row) → IsFaulty (lines_shown kind rows)
+shown-faulty kind rows =
+    step-faulty _ _ (optional-faulty lines.Text (form_of kind) option.Form rows) (λ form.
     step-faulty _ _ (show-by-faulty (given option.Show rows) (given option.Key rows)) (λ show. none-faulty _))
 
 lines-faulty : (title : Option Text) (read : Result FormAsked Response) → IsFaulty read → IsFaulty (without_title title read)
@@ -37,9 +37,9 @@ lines-faulty (Some title) read faulty = or-faulty {A = FormAsked} None usage_res
 pub form-faulty : (kind : ReviewKind) (rows : List Row) → IsFaulty (review_form kind rows)
 form-faulty kind rows = by (asks_page rows)
   where
-    by : (b : Bool) → IsFaulty (if b then page_form kind rows else lines_form rows)
+    by : (b : Bool) → IsFaulty (if b then page_form kind rows else lines_form kind rows)
     by true = page-faulty (given option.Key rows) (given option.Show rows) (title_or kind (given option.Title rows))
-    by false = lines-faulty (given option.Title rows) (lines_shown rows) (shown-faulty rows)
+    by false = lines-faulty (given option.Title rows) (lines_shown kind rows) (shown-faulty kind rows)
 
 -- ---- what was read
 
@@ -53,15 +53,15 @@ some-none key h = cc
 abbrev LinesAsked : List Row → FormAsked → Type 0
 LinesAsked rows form = (show : Show) × (f : Form) × (form ≡ as_lines show f) × (show_asked rows ≡ Ok show)
 
-shown-read : (rows : List Row) (form : FormAsked) → lines_shown rows ≡ Ok form → LinesAsked rows form
-shown-read rows =
-    step-any (LinesAsked rows) (value_or lines.Text form_of option.Form rows) _ (λ f.
+shown-read : (kind : ReviewKind) (rows : List Row) (form : FormAsked) → lines_shown kind rows ≡ Ok form → LinesAsked rows form
+shown-read kind rows =
+    step-any (LinesAsked rows) (value_or lines.Text (form_of kind) option.Form rows) _ (λ f.
     step-gives (λ show. show_asked rows ≡ Ok show) (LinesAsked rows) (show_asked rows) _ (λ show h. h) (λ show is.
     λ form h. (show, f, sym (ok-same {A = FormAsked} {B = Response} (as_lines show f) form h), is)))
 
-lines-read : (rows : List Row) (title : Option Text) (form : FormAsked) → without_title title (lines_shown rows) ≡ Ok form → LinesAsked rows form
-lines-read rows None form h = shown-read rows form h
-lines-read rows (Some title) form h = absurd (err-ok usage_response form h)
+lines-read : (kind : ReviewKind) (rows : List Row) (title : Option Text) (form : FormAsked) → without_title title (lines_shown kind rows) ≡ Ok form → LinesAsked rows form
+lines-read kind rows None form h = shown-read kind rows form h
+lines-read kind rows (Some title) form h = absurd (err-ok usage_response form h)
 
 page-read : (key show : Option Text) (title : Text) (form : FormAsked) → page_of_all key show title ≡ Ok form → (form ≡ as_page title) × (key ≡ None)
 page-read None None title form h = (sym (ok-same {A = FormAsked} {B = Response} (as_page title) form h), refl)
@@ -70,13 +70,13 @@ page-read (Some key) show title form h = absurd (err-ok usage_response form h)
 
 -- no page was asked for
 form-lines : (kind : ReviewKind) (rows : List Row) (form : FormAsked) → asks_page rows ≡ false → review_form kind rows ≡ Ok form → LinesAsked rows form
-form-lines kind rows form unasked h = lines-read rows (given option.Title rows) form (subst (λ (b : Bool). (if b then page_form kind rows else lines_form rows) ≡ Ok form) unasked h)
+form-lines kind rows form unasked h = lines-read kind rows (given option.Title rows) form (subst (λ (b : Bool). (if b then page_form kind rows else lines_form kind rows) ≡ Ok form) unasked h)
 
 form-page : (kind : ReviewKind) (rows : List Row) (form : FormAsked) → asks_page rows ≡ true → review_form kind rows ≡ Ok form
     → (form ≡ as_page (title_or kind (given option.Title rows))) × (given option.Key rows ≡ None)
 form-page kind rows form page_asked h =
     page-read (given option.Key rows) (given option.Show rows) (title_or kind (given option.Title rows)) form
-    (subst (λ (b : Bool). (if b then page_form kind rows else lines_form rows) ≡ Ok form) page_asked h)
+    (subst (λ (b : Bool). (if b then page_form kind rows else lines_form kind rows) ≡ Ok form) page_asked h)
 
 -- a key was asked for
 form-keyed : (kind : ReviewKind) (rows : List Row) (key : Text) (form : FormAsked) → given option.Key rows ≡ Some key → review_form kind rows ≡ Ok form → LinesAsked rows form

@@ -7,10 +7,12 @@ use Rattle.ssh_print.specs.Responses.{Response as Shown, out_of_memory}
 use Rattle.ssh_program.specs.declared.command.CommandError.TheVariants.{Memory}
 use Rattle.ssh_program.specs.declared.streaming.Stop.{Stop}
 use Rattle.ssh_program.specs.declared.streaming.Stop.TheVariants as stop
-use Rattle.ssh_program.specs.FileReviews.{EndsEarly, FailedIfStopped, IsCutAt, IsFrontOf, IsFrontOfNext, TellsFront, TextWritten, TextsWritten, WritesFront}
+use Rattle.ssh_program.specs.FileReviews.{BeforePut, EndsEarly, FailedIfStopped, IsCutAt, IsFrontOf, IsFrontOfNext, TellsFront, TextWritten, TextsWritten, WritesFront}
+use Rattle.ssh_review.specs.Forms.{first_lines}
+use Rattle.ssh_review.specs.declared.end.Form.{Form}
 use Rattle.ssh_program.specs.Printing.{WritesAnswer, behind}
 use Rattle.ssh_program.specs.Writing.{IfWritten, IsMade}
-use Rattle.ssh_program.proofs.WrittenText.{both_taken, first_broken, nothing_taken, second_broken}
+use Rattle.ssh_program.proofs.WrittenText.{both_taken, first_broken, second_broken}
 
 -- ---- answers that were written
 
@@ -134,11 +136,19 @@ front-reported with tells start names left s now sofar counts w = record {
 abbrev pub WrittenSoFar : {N A B K : Type 0} → (B → A → B) → Telling N A → B → (B → List ℕ) → (B → K) → List N → List N → SourceState → Option SourceState → Option Account → Option Account → K → Type 0
 WrittenSoFar with tells start text kept names left s now old new k = (sofar : _) × (k ≡ kept sofar) × ReadSoFar with tells start names left s now sofar × TakesAll old new (text sofar)
 
-pub written_first : {N A B K : Type 0} (with : B → A → B) (tells : Telling N A) (start : B) (text : B → List ℕ) (kept : B → K) (names : List N) (o : Option SourceState) (a : Option Account) → text start ≡ []
-    → IfTells o (λ s. WrittenSoFar with tells start text kept names names s o a a (kept start))
-written_first with tells start text kept names None a none = tt
-written_first with tells start text kept names (Some s) a none = λ counts.
-    (start, refl, read_first with tells start names (Some s) counts, subst (λ (l : List ℕ). TakesAll a a l) (sym none) (nothing_taken a))
+pub written_first : {N A B K : Type 0} (with : B → A → B) (tells : Telling N A) (start : B) (text : B → List ℕ) (kept : B → K) (names : List N) (o : Option SourceState) (old new : Option Account) → TakesAll old new (text start)
+    → IfTells o (λ s. WrittenSoFar with tells start text kept names names s o old new (kept start))
+written_first with tells start text kept names None old new taken = tt
+written_first with tells start text kept names (Some s) old new taken = λ counts. (start, refl, read_first with tells start names (Some s) counts, taken)
+
+-- a write failed in what stands before the first file
+pub before_stopped : {N A B K : Type 0} (L : Type 0) (with : B → A → B) (tells : Telling N A) (form : Form) (start : B) (text : B → List ℕ) (text_of : A → List ℕ) (kept : B → K) (names : List N)
+    (o t : Option SourceState) (old new : Option Account) (e : Stop) → text start ≡ first_lines form → BeforePut {K = L} form old new (Err e)
+    → IfTells o (λ s. TextsWritten with tells start text text_of kept names s t old new (Err e))
+before_stopped L with tells form start text text_of kept names o t old new stop.Memory is put = absurd put
+before_stopped L with tells form start text text_of kept names None t old new stop.Write is put = tt
+before_stopped L with tells form start text text_of kept names (Some s) t old new stop.Write is put = λ counts.
+    (start, front-reported with tells start names names s (Some s) start counts (read_first with tells start names (Some s) counts), subst (λ (l : List ℕ). Breaks old new l) (sym is) put)
 
 -- the next file was read, and its text was taken
 pub written_next : {N A B K : Type 0} (with : B → A → B) (tells : Telling N A) (start : B) (text : B → List ℕ) (kept : B → K) (names : List N) (name : N) (left rest : List N) (o now next : Option SourceState)

@@ -15,8 +15,8 @@ use Rattle.ssh_print.specs.Offering.{Offered, shown_offer_in}
 use Rattle.ssh_print.specs.declared.showing.ShowError.{ShowError}
 use Rattle.ssh_print.specs.Showing.{show_fault_response}
 use Rattle.ssh_print.specs.declared.admission_text.Subject.{Subject}
-use Rattle.ssh_review.specs.declared.end.Form.{Form}
-use Rattle.ssh_review.specs.declared.end.Form.TheVariants.{Text, Json}
+use Rattle.ssh_program.specs.declared.decision_form.DecisionForm.{DecisionForm}
+use Rattle.ssh_program.specs.declared.decision_form.DecisionForm.TheVariants.{Text, Json}
 use Rattle.ssh_review.specs.AnswerObjects.{answer_object, answer_total}
 use Rattle.ssh_review.specs.Asked.{Asked, asked_line}
 use Rattle.ssh_print.specs.AnswerText.{answer_text}
@@ -68,7 +68,7 @@ abbrev pub reported_both : ReportedLines → ReportedLines → ReportedLines
 reported_both a b = record { outcome = and_then a.outcome b.outcome; text = a.text ++ b.text }
 
 -- the first lines of a decision, followed by the others; as JSON, one object
-abbrev pub text_of : Form → Subject → List ℕ → OtherLines → Result Decision AuditError → List ℕ
+abbrev pub text_of : DecisionForm → Subject → List ℕ → OtherLines → Result Decision AuditError → List ℕ
 text_of Text who name other answer = answer_text who name answer ++ other.text
 text_of Json who name other answer = answer_object who name other answer
 
@@ -76,7 +76,7 @@ abbrev pub reported_of : AnswerForm → List ℕ → OtherLines → Result Decis
 reported_of who name other answer = record { outcome = outcome_of other answer; text = text_of who.form who.subject name other answer }
 
 -- when the files were asked comes last; in JSON in the total
-abbrev pub total_of : Form → Subject → Asked → ℕ → ℕ → List ℕ
+abbrev pub total_of : DecisionForm → Subject → Asked → ℕ → ℕ → List ℕ
 total_of Text who at files status = asked_line at
 total_of Json who at files status = answer_total who at files status
 

@@ -12,7 +12,7 @@ use Rattle.ssh_print.specs.Responses.{Response, usage_response}
 use Rattle.ssh_print.specs.StandIn.{login_algorithm, stand_in}
 use Rattle.ssh_program.specs.declared.args.ArgName.{ArgName}
 use Rattle.ssh_program.specs.declared.args.ArgName.TheVariants as option
-use Rattle.ssh_review.specs.declared.end.Form.TheVariants as form
+use Rattle.ssh_program.specs.declared.decision_form.DecisionForm.TheVariants as form
 use Rattle.ssh_program.specs.Clients.{client_spelled, login_asking}
 use Rattle.ssh_program.specs.FingerprintValues.{digest_in}
 use Rattle.ssh_program.specs.Keys.{KeyAsked, admits_spelled, fingerprint_spelled, host_asking, trusts_spelled}

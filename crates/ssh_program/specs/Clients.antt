@@ -14,13 +14,13 @@ use Rattle.ssh_print.specs.OtherLines.{other_login}
 use Rattle.ssh_print.specs.StandIn.{login_algorithm, stand_in}
 use Rattle.ssh_print.specs.declared.admission_text.Subject.TheVariants.{Client}
 use Rattle.ssh_review.specs.Asked.{Asked}
-use Rattle.ssh_review.specs.declared.end.Form.{Form}
-use Rattle.ssh_review.specs.declared.end.Form.TheVariants.{Text}
+use Rattle.ssh_program.specs.declared.decision_form.DecisionForm.{DecisionForm}
+use Rattle.ssh_program.specs.declared.decision_form.DecisionForm.TheVariants.{Text}
 use Rattle.ssh_program.specs.declared.args.ArgName.TheVariants as option
 use Rattle.ssh_program.specs.declared.admission.AnswerForm.{AnswerForm}
 use Rattle.ssh_program.specs.Admissions.{KeyAsking, beside_by}
 use Rattle.ssh_program.specs.Audits.{login_by, login_rests}
-use Rattle.ssh_program.specs.ReviewForms.{form_of}
+use Rattle.ssh_program.specs.DecisionForms.{decision_form_of}
 use Rattle.ssh_program.specs.Spelling.{given, needed, or_fault, value, value_or}
 
 -- who logs in, from where and when, and how the answer is printed
@@ -34,7 +34,7 @@ pub record ClientOptions : Type 0 where
   pub rule : List ℕ
   pub empty_principals : EmptyPrincipals
   pub rsa_minimum : ℕ
-  pub form : Form
+  pub form : DecisionForm
 
 -- the login of this offer with this signature; the session identifier is empty, since no rule looks into it
 abbrev pub login_with : ClientOptions → Offered → List ℕ → Login
@@ -56,11 +56,11 @@ login_with c o signature = record {
 abbrev pub client_login : ClientOptions → Offered → Login
 client_login c o = login_with c o (stand_in o.kind)
 
-abbrev pub client_form : Form → AnswerForm
+abbrev pub client_form : DecisionForm → AnswerForm
 client_form form = record { subject = Client; form = form }
 
 -- the question of a login, in the time zone of this rule
-abbrev pub login_asking : Form → List ℕ → Login → KeyAsking
+abbrev pub login_asking : DecisionForm → List ℕ → Login → KeyAsking
 login_asking form rule q = record { who = client_form form; at = record { now = q.now; zone = Some rule }; by = login_by q; rests_on = login_rests q; beside = beside_by other_login (login_claim q) }
 
 -- the question to each trust file about this offer
@@ -79,7 +79,7 @@ client_spelled rows zone = do
   zone ← or_fault option.Zone zone
   empty_principals ← value_or Any empty_principals_of option.EmptyPrincipals rows
   rsa_minimum ← value_or 0 (number_below (2 ^ 32)) option.RsaMinimum rows
-  form ← value_or Text form_of option.Form rows
+  form ← value_or Text decision_form_of option.Form rows
   address ← needed option.Address rows
   Ok (record {
     user = user;

@@ -1,5 +1,5 @@
 -- The reviews of files, one after the other (this project's rule).
-use Rattle.std.specs.Prelude.{◌≡◌, ◌<◌, ◌⊎◌, ◌++◌, ℕ, List, [], ◌∷◌, false, length, Option, Some, None, Result, Ok, Err, codes, ⊤}
+use Rattle.std.specs.Prelude.{◌≡◌, ◌<◌, ◌⊎◌, ◌++◌, ℕ, List, [], ◌∷◌, false, length, Option, Result, Ok, Err, codes, ⊤}
 use Rattle.ssh_findings.specs.Asking.{Asking}
 use Rattle.ssh_findings.specs.declared.code.Code.{Code}
 use Rattle.ssh_files.specs.FilesInTurn.{Telling, TellsFile, TellsFiles}
@@ -7,12 +7,14 @@ use Rattle.ssh_files.specs.SourceState.{IfTells, SourceState}
 use Rattle.ssh_files.specs.declared.files.UnreadCause.{UnreadCause}
 use Rattle.ssh_files.specs.declared.read.ReadError.{ReadError}
 use Rattle.ssh_files.specs.declared.read.ReadError.TheVariants as read
+use Rattle.ssh_page.specs.declared.file.FileKind.{FileKind}
+use Rattle.ssh_page.specs.declared.file.FileKind.TheVariants.{AuthorizedKeys, KnownHosts}
 use Rattle.ssh_print.specs.Responses.{Response, out_of_memory}
 use Rattle.ssh_review.specs.declared.end.FileFault.TheVariants.{TooLong, Unread}
 use Rattle.ssh_review.specs.declared.end.Total.{Total}
 use Rattle.ssh_review.specs.declared.end.Form.{Form}
 use Rattle.ssh_review.specs.FileNames.{NameSeen, file_head}
-use Rattle.ssh_review.specs.Forms.{total_line}
+use Rattle.ssh_review.specs.Forms.{first_lines, total_line}
 use Rattle.ssh_review.specs.Making.{AreWholeLines}
 use Rattle.ssh_review.specs.Reviews.{Review, fault_review}
 use Rattle.ssh_review.specs.ShownRecords.{shown_auth_review, shown_known_review}
@@ -31,8 +33,9 @@ pub record Lines : Type 0 where
   pub total : Total
   pub text : List ℕ
 
-abbrev pub no_lines : Lines
-no_lines = record { total = nothing; text = [] }
+-- before the first file: a table has its header
+abbrev pub lines_before : Form → Lines
+lines_before form = record { total = nothing; text = first_lines form }
 
 -- the lines so far, followed by the review of one more file
 abbrev pub with_file : Lines → Review → Lines
@@ -60,6 +63,11 @@ telling_review kind show form asking = record {
 abbrev pub kind_name : ReviewKind → List ℕ
 kind_name Auth = codes "auth"
 kind_name Known = codes "known"
+
+-- the format of the files, as the page and the table have it
+abbrev pub file_kind : ReviewKind → FileKind
+file_kind Auth = AuthorizedKeys
+file_kind Known = KnownHosts
 
 -- ---- files whose texts are written one after the other
 
@@ -125,6 +133,12 @@ TextWritten tells text kept name o t old new (Err Memory) = (part : List ℕ) ×
     × ((part ≡ []) ⊎ ((reported : _) × IfTells o (λ s. TellsFile tells name s t reported) × IsCutAt part (text reported)))
 TextWritten tells text kept name o t old new (Err Write) = (reported : _) × IfTells o (λ s. TellsFile tells name s t reported) × Breaks old new (text reported)
 
+-- what came of writing what stands before the first file
+abbrev pub BeforePut : {K : Type 0} → Form → Option Account → Option Account → Result K Stop → Type 0
+BeforePut form old new (Ok k) = TakesAll old new (first_lines form)
+BeforePut form old new (Err Memory) = ⊥
+BeforePut form old new (Err Write) = Breaks old new (first_lines form)
+
 -- what is kept of a review whose text is written
 abbrev pub review_kept : Review → FileReported
 review_kept r = record { counts = r.counts; stands = false; fault = r.fault }
@@ -154,5 +168,5 @@ review_response kind failing form rule asking reported = record {
 -- the total is last: an answer without it went no further
 abbrev pub ReviewsFiles : ReviewKind → Show → List Code → Form → List ℕ → Asking → List NameSeen → SourceState → Option SourceState → Response → Type 0
 ReviewsFiles kind show failing form rule asking names s t r =
-    ((reported : Lines) × TellsFiles with_file (telling_review kind show form asking) no_lines names s t reported × (r ≡ review_response kind failing form rule asking reported))
-    ⊎ EndsEarly with_file (telling_review kind show form asking) no_lines (λ reported. reported.text) (λ r. r.text) names s r
+    ((reported : Lines) × TellsFiles with_file (telling_review kind show form asking) (lines_before form) names s t reported × (r ≡ review_response kind failing form rule asking reported))
+    ⊎ EndsEarly with_file (telling_review kind show form asking) (lines_before form) (λ reported. reported.text) (λ r. r.text) names s r

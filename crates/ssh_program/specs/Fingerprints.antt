@@ -19,8 +19,8 @@ use Rattle.ssh_print.specs.Offering.{Offered}
 use Rattle.ssh_print.specs.OtherLines.{OtherLines, nothing_other, unreported_other}
 use Rattle.ssh_print.specs.Responses.{Response, refused_response}
 use Rattle.ssh_print.specs.declared.admission_text.Subject.TheVariants.{Client}
-use Rattle.ssh_review.specs.declared.end.Form.{Form}
-use Rattle.ssh_review.specs.declared.end.Form.TheVariants.{Text, Json}
+use Rattle.ssh_program.specs.declared.decision_form.DecisionForm.{DecisionForm}
+use Rattle.ssh_program.specs.declared.decision_form.DecisionForm.TheVariants.{Text, Json}
 use Rattle.ssh_review.specs.AnswerObjects.{answer_object}
 use Rattle.ssh_program.specs.declared.admission.AnswerForm.{AnswerForm}
 use Rattle.ssh_program.specs.Admissions.{KeyAsking, Otherness, ReportedLines, denied_outcome, nothing_reported, reported_both, reported_by, reported_of, reported_response}
@@ -40,11 +40,11 @@ reported_alone a name file = reported_alone_by a.who a.by a.beside a.rests_on na
 -- ---- a file that holds none
 
 -- no line admits the key, and no key was looked for
-abbrev pub absent_in : Form → List ℕ → OtherLines → List ℕ
+abbrev pub absent_in : DecisionForm → List ℕ → OtherLines → List ℕ
 absent_in Text name other = absent_text name ++ other.text
 absent_in Json name other = answer_object Client name other (Ok (Denied NoLine [] []))
 
-abbrev pub reported_absent : Form → List ℕ → OtherLines → ReportedLines
+abbrev pub reported_absent : DecisionForm → List ℕ → OtherLines → ReportedLines
 reported_absent form name other = record { outcome = denied_outcome other.may_admit; text = absent_in form name other }
 
 -- ---- files
@@ -54,7 +54,7 @@ abbrev pub reported_found : ClientOptions → List ℕ → List ℕ → Option O
 reported_found client name file None = reported_absent client.form name (unreported_other file)
 reported_found client name file (Some offer) = reported_alone (client_asks client offer) name file
 
-abbrev pub reported_fault : Form → List ℕ → AuditError → ReportedLines
+abbrev pub reported_fault : DecisionForm → List ℕ → AuditError → ReportedLines
 reported_fault form name e = reported_of (client_form form) name nothing_other (Err e)
 
 -- of the file of this name, which may be missing or too long
@@ -72,7 +72,7 @@ fingerprint_telling client digest = record {
 }
 
 -- the answer of a file whose bytes could not be had, where memory could be allocated
-abbrev pub IsUnreadFile : Form → List ℕ → ReadError → ReportedLines → Type 0
+abbrev pub IsUnreadFile : DecisionForm → List ℕ → ReadError → ReportedLines → Type 0
 IsUnreadFile form name read.Memory reported = ⊥
 IsUnreadFile form name read.Missing reported = reported ≡ reported_fault form name Read
 IsUnreadFile form name read.TooLong reported = reported ≡ reported_fault form name FileTooLong

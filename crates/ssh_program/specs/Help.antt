@@ -98,7 +98,7 @@ key_sentence c = codes "the file of the public key or certificate, as id_ed25519
 
 -- what `--form` gives to a command
 abbrev pub form_sentence : Subcommand → Text
-form_sentence Review = codes "text (so without it), json for one object on each line, or html for one page to look at, print and sign"
+form_sentence Review = codes "text (so without it), json for one object a line, line for a table, html for a page to look at, print and sign"
 form_sentence c = codes "text (so without it), or json for one object on each line"
 
 -- what an option gives to a command
@@ -164,7 +164,7 @@ wanted_value option.Fingerprint = codes "SHA256: and 43 characters of base64, as
 wanted_value option.Findings = codes "all, none, or codes from F1 to F22 joined by commas"
 wanted_value option.FailOn = codes "all, none, or codes from F1 to F22 joined by commas"
 wanted_value option.Show = codes "all, found or totals"
-wanted_value option.Form = codes "text or json, and of review also html"
+wanted_value option.Form = codes "text or json, and of review also line or html"
 wanted_value option.Title = codes "a text"
 wanted_value option.Labels = codes "host,account, and names that have both, each with a tab behind it"
 wanted_value option.FilesFrom = codes "a file of names, each ended by NUL or by a line end"

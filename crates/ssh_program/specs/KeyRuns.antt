@@ -15,7 +15,7 @@ use Rattle.ssh_print.specs.Offering.{Offered}
 use Rattle.ssh_files.specs.SourceState.{SourceState, bytes_at, most_failures}
 use Rattle.ssh_files.specs.Loading.{KeepsOthers, within_limit}
 use Rattle.ssh_files.specs.Values.{ReadsZone, zone_text}
-use Rattle.ssh_review.specs.declared.end.Form.{Form}
+use Rattle.ssh_program.specs.declared.decision_form.DecisionForm.{DecisionForm}
 use Rattle.ssh_program.specs.declared.args.ArgName.TheVariants as option
 use Rattle.ssh_program.specs.declared.subcommand.Subcommand.{Subcommand}
 use Rattle.ssh_program.specs.declared.subcommand.Subcommand.TheVariants.{Admits}
@@ -71,7 +71,7 @@ pub record ClientAsked (rows : List Row) (s : SourceState) : Type 0 where
   pub offered : offer_or_fault asked.key (within_limit (bytes_at s asked.key)) ≡ Ok offer
   pub login : Login
   pub blob : login.offered ≡ offer.blob
-  pub form : Form
+  pub form : DecisionForm
   pub rule : List ℕ
   pub asks : asked.asks offer ≡ login_asking form rule login
   pub claim : LoginClaim
@@ -107,7 +107,7 @@ pub record HostAsked (rows : List Row) (s : SourceState) : Type 0 where
   pub offered : offer_or_fault asked.key (within_limit (bytes_at s asked.key)) ≡ Ok offer
   pub check : HostCheck
   pub blob : check.offered ≡ offer.blob
-  pub form : Form
+  pub form : DecisionForm
   pub asks : asked.asks offer ≡ host_asking form check
   pub claim : HostClaim
   pub claimed : host_claim check ≡ Ok claim

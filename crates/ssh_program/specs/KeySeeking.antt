@@ -24,7 +24,7 @@ use Rattle.ssh_program.specs.declared.streaming.FileReported.{FileReported}
 use Rattle.ssh_program.specs.declared.review.ReviewKind.{ReviewKind}
 use Rattle.ssh_program.specs.declared.review.ReviewKind.TheVariants.{Auth, Known}
 use Rattle.ssh_program.specs.Audits.{IsFileFault}
-use Rattle.ssh_program.specs.FileReviews.{EndsEarly, Lines, ReviewsFiles, kind_name, no_lines, with_file}
+use Rattle.ssh_program.specs.FileReviews.{EndsEarly, Lines, ReviewsFiles, kind_name, lines_before, with_file}
 use Rattle.ssh_program.specs.FingerprintValues.{fingerprint_bytes, is_fingerprint}
 use Rattle.ssh_program.specs.OfferPrints.{offer_print}
 use Rattle.ssh_program.specs.Spelling.{RespondsTo, or_fault}
@@ -40,8 +40,8 @@ pub record KeyLines : Type 0 where
 abbrev pub key_total : KeyLines → KeyTotal
 key_total k = record { total = k.lines.total; stands = k.stands }
 
-abbrev pub no_key_lines : KeyLines
-no_key_lines = record { lines = no_lines; stands = false }
+abbrev pub key_lines_before : Form → KeyLines
+key_lines_before form = record { lines = lines_before form; stands = false }
 
 -- the lines so far, followed by the review of one more file
 abbrev pub with_key_file : KeyLines → KeyReview → KeyLines
@@ -82,8 +82,8 @@ key_review_response kind form rule asking reported = record {
 
 abbrev pub SeeksKey : ReviewKind → Form → List ℕ → Asking → List NameSeen → List ℕ → SourceState → Option SourceState → Response → Type 0
 SeeksKey kind form rule asking names fingerprint s t r =
-    ((reported : KeyLines) × TellsFiles with_key_file (telling_key_review fingerprint kind form asking) no_key_lines names s t reported × (r ≡ key_review_response kind form rule asking reported))
-    ⊎ EndsEarly with_key_file (telling_key_review fingerprint kind form asking) no_key_lines (λ reported. reported.lines.text) (λ r. r.file.text) names s r
+    ((reported : KeyLines) × TellsFiles with_key_file (telling_key_review fingerprint kind form asking) (key_lines_before form) names s t reported × (r ≡ key_review_response kind form rule asking reported))
+    ⊎ EndsEarly with_key_file (telling_key_review fingerprint kind form asking) (key_lines_before form) (λ reported. reported.lines.text) (λ r. r.file.text) names s r
 
 -- ---- the key
 

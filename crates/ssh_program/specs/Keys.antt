@@ -13,12 +13,12 @@ use Rattle.ssh_print.specs.Offering.{Offered}
 use Rattle.ssh_print.specs.HostOther.{other_host}
 use Rattle.ssh_print.specs.StandIn.{stand_in}
 use Rattle.ssh_print.specs.declared.admission_text.Subject.TheVariants.{Host}
-use Rattle.ssh_review.specs.declared.end.Form.{Form}
-use Rattle.ssh_review.specs.declared.end.Form.TheVariants.{Text}
+use Rattle.ssh_program.specs.declared.decision_form.DecisionForm.{DecisionForm}
+use Rattle.ssh_program.specs.declared.decision_form.DecisionForm.TheVariants.{Text}
 use Rattle.ssh_program.specs.declared.args.ArgName.TheVariants as option
 use Rattle.ssh_program.specs.declared.args.KeyPlace.{KeyPlace}
 use Rattle.ssh_program.specs.declared.args.KeyPlace.TheVariants as place
-use Rattle.ssh_program.specs.ReviewForms.{form_of}
+use Rattle.ssh_program.specs.DecisionForms.{decision_form_of}
 use Rattle.ssh_program.specs.Spelling.{RespondsTo, given, names_needed, needed, usual_port, value, value_or}
 use Rattle.ssh_program.specs.Admissions.{KeyAsking, AsksKey, beside_by}
 use Rattle.ssh_program.specs.Audits.{host_by, host_rests}
@@ -33,7 +33,7 @@ pub record KeyAsked : Type 0 where
   pub names : List (List ℕ)
   pub asks : Offered → KeyAsking
 
-abbrev pub host_asking : Form → HostCheck → KeyAsking
+abbrev pub host_asking : DecisionForm → HostCheck → KeyAsking
 host_asking form q = record { who = record { subject = Host; form = form }; at = record { now = q.now; zone = None }; by = host_by q; rests_on = host_rests q; beside = beside_by other_host (host_claim q) }
 
 -- ---- a client's key
@@ -81,7 +81,7 @@ trusts_spelled rows = do
   port ← value_or usual_port (number_below (2 ^ 16)) option.Port rows
   empty_principals ← value_or Any empty_principals_of option.EmptyPrincipals rows
   rsa_minimum ← value_or 0 (number_below (2 ^ 32)) option.RsaMinimum rows
-  form ← value_or Text form_of option.Form rows
+  form ← value_or Text decision_form_of option.Form rows
   host ← needed option.Host rows
   names ← names_needed rows
   Ok (record {

@@ -65,6 +65,7 @@ pub mod FileReviews
 pub mod ReviewZones
 pub mod ReviewShows
 pub mod ReviewForms
+pub mod DecisionForms
 pub mod ReviewFails
 pub mod PageFronts
 pub mod PageReviews

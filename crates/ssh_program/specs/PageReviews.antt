@@ -9,13 +9,11 @@ use Rattle.ssh_files.specs.SourceState.{SourceState}
 use Rattle.ssh_files.specs.declared.read.ReadError.{ReadError}
 use Rattle.ssh_files.specs.declared.read.ReadError.TheVariants as read
 use Rattle.ssh_page.specs.declared.file.FileKind.{FileKind}
-use Rattle.ssh_page.specs.declared.file.FileKind.TheVariants.{AuthorizedKeys, KnownHosts}
 use Rattle.ssh_page.specs.Documents.{Document, marks, nothing, ◌&◌}
 use Rattle.ssh_page.specs.Expanding.{page}
 use Rattle.ssh_page.specs.Files.{register_end, register_head}
 use Rattle.ssh_page.specs.Pages.{lines_end, page_end, whole_page}
 use Rattle.ssh_print.specs.Responses.{Response}
-use Rattle.ssh_review.specs.declared.end.Counts.{Counts}
 use Rattle.ssh_review.specs.declared.end.FileFault.{FileFault}
 use Rattle.ssh_review.specs.declared.end.FileFault.TheVariants.{TooLong, Unread}
 use Rattle.ssh_review.specs.declared.end.Total.{Total}
@@ -24,17 +22,12 @@ use Rattle.ssh_review.specs.FileNames.{NameSeen, shown_name}
 use Rattle.ssh_review.specs.Ends.{total_words}
 use Rattle.ssh_review.specs.PageFiles.{file_counts, file_section, register_row, unread_row, unread_section}
 use Rattle.ssh_program.specs.declared.review.ReviewKind.{ReviewKind}
-use Rattle.ssh_program.specs.declared.review.ReviewKind.TheVariants.{Auth, Known}
 use Rattle.ssh_program.specs.declared.review_page.MadePage.{MadePage}
 use Rattle.ssh_program.specs.declared.review_page.PageParts.{PageParts}
 use Rattle.ssh_program.specs.declared.streaming.FileReported.{FileReported}
+use Rattle.ssh_program.specs.FileReviews.{file_kind}
 use Rattle.ssh_program.specs.PageFronts.{codes_found, front_of, page_question, page_totals}
 use Rattle.ssh_program.specs.Totals.{nothing as no_total, total_status, with_counted}
-
--- the format of the files, as the page has it
-abbrev pub page_kind : ReviewKind → FileKind
-page_kind Auth = AuthorizedKeys
-page_kind Known = KnownHosts
 
 -- ---- one file
 
@@ -104,9 +97,9 @@ no_page = record { sections = nothing; register = nothing; total = no_total }
 -- with one more file, whose number is how many were before it
 abbrev pub with_given : ReviewKind → Asking → PageSofar → FileGiven → PageSofar
 with_given kind asking sofar f = record {
-  sections = sofar.sections & section_by (page_kind kind) sofar.total.files asking f.name f.bytes;
-  register = sofar.register & row_by (page_kind kind) sofar.total.files asking f.name f.bytes;
-  total = with_counted sofar.total (given_kept (page_kind kind) asking f.bytes).counts (given_kept (page_kind kind) asking f.bytes).fault;
+  sections = sofar.sections & section_by (file_kind kind) sofar.total.files asking f.name f.bytes;
+  register = sofar.register & row_by (file_kind kind) sofar.total.files asking f.name f.bytes;
+  total = with_counted sofar.total (given_kept (file_kind kind) asking f.bytes).counts (given_kept (file_kind kind) asking f.bytes).fault;
 }
 
 -- the same in marked text
@@ -135,7 +128,7 @@ page_rest register words = marks lines_end ++ marks register_head ++ register ++
 abbrev pub parts_response : List Code → List ℕ → ReviewKind → List ℕ → Asking → PageMarks → Response
 parts_response failing title kind rule asking k = record {
   status = total_status failing k.total;
-  text = page (front_of title (page_kind kind) rule asking k.total) ++ page (k.sections ++ page_rest k.register (total_words rule asking k.total));
+  text = page (front_of title (file_kind kind) rule asking k.total) ++ page (k.sections ++ page_rest k.register (total_words rule asking k.total));
 }
 
 abbrev pub made_response : MadePage → Response
@@ -146,7 +139,7 @@ made_response m = record { status = m.status; text = page m.front.items ++ page 
 abbrev pub page_response : List Code → List ℕ → ReviewKind → List ℕ → Asking → PageSofar → Response
 page_response failing title kind rule asking p = record {
   status = total_status failing p.total;
-  text = page (marks (whole_page title (page_question (page_kind kind) rule asking) (page_totals p.total (codes_found p.total.counts.by_code))
+  text = page (marks (whole_page title (page_question (file_kind kind) rule asking) (page_totals p.total (codes_found p.total.counts.by_code))
       (codes_found p.total.counts.by_code) p.sections p.register (total_words rule asking p.total)));
 }
 

@@ -22,7 +22,7 @@ use Rattle.ssh_review.specs.PageListing.{HasHostRow, HasRow}
 use Rattle.ssh_program.specs.declared.review.ReviewKind.{ReviewKind}
 use Rattle.ssh_program.specs.declared.review.ReviewKind.TheVariants.{Auth, Known}
 use Rattle.ssh_program.specs.FileRuns.{IsPartOf}
-use Rattle.ssh_program.specs.PageReviews.{page_kind}
+use Rattle.ssh_program.specs.FileReviews.{file_kind}
 use Rattle.ssh_program.specs.ReviewForms.{asks_page}
 use Rattle.ssh_program.specs.ReviewZones.{review_rule}
 use Rattle.ssh_review.specs.FileNames.{NameSeen, shown_name}
@@ -50,7 +50,7 @@ ShowsRows Known asked number file = ShowsHosts asked number file
 -- the section of a file is a part of the page, and has a row for whoever the file lets in
 abbrev pub PrintsSection : PageAsked → ℕ → List ℕ → List ℕ → List ℕ → Type 0
 PrintsSection asked number name text file =
-    IsPartOf (page (marks (file_section (page_kind asked.kind) number asked.asking name file))) text × ShowsRows asked.kind asked number file
+    IsPartOf (page (marks (file_section (file_kind asked.kind) number asked.asking name file))) text × ShowsRows asked.kind asked number file
 
 -- each of the files is there, one read after the other, and has its section, of the next number
 abbrev pub PrintsSections : PageAsked → ℕ → List ℕ → List NameSeen → SourceState → Type 0

@@ -12,13 +12,14 @@ ghost use Rattle.ssh_program.specs.Audits.{Deciding, refusal_of};
 ghost use Rattle.ssh_program.specs.Fingerprints.{reported_alone_by};
 
 use crate::audit::is_memory;
+use crate::decision_form::DecisionForm;
 use crate::file_question::FileQuestion;
 use ssh_files::{Files, ReadError, read_whole};
 use ssh_offers::{AuditError, Signed};
 use ssh_print::{
     DONE, FAULT, Otherwise, Response, Subject, answer_text, audit_fault, nothing_other,
 };
-use ssh_review::{AskedAt, Form, answer_object, answer_total, asked_line};
+use ssh_review::{AskedAt, answer_object, answer_total, asked_line};
 use ssh_trust::Decision;
 use std::alloc::{AllocError, Global};
 
@@ -94,7 +95,7 @@ impl Outcome {
 #[derive(Clone, Copy, Debug, PartialEq, Eq)]
 pub struct AnswerForm {
     pub subject: Subject,
-    pub form: Form,
+    pub form: DecisionForm,
 }
 
 /// The output lines of some files, and their combined result.
@@ -116,12 +117,12 @@ fn answer_in(
         ≡ text_of who.form who.subject name.now (otherwise_seen other.now) answer.now) }
 {
     match who.form {
-        Form::Text => {
+        DecisionForm::Text => {
             let mut text = answer_text(alloc, who.subject, name, answer)?;
             text.extend_from_slice(&other.text)?;
             Ok(text)
         }
-        Form::Json => answer_object(alloc, who.subject, name, other, answer),
+        DecisionForm::Json => answer_object(alloc, who.subject, name, other, answer),
     }
 }
 
@@ -325,8 +326,8 @@ fn total_in(
         ≡ total_of who.form who.subject (asked_of at.entry.now) files status) }
 {
     match who.form {
-        Form::Text => asked_line(alloc, at),
-        Form::Json => answer_total(alloc, who.subject, at, files, status),
+        DecisionForm::Text => asked_line(alloc, at),
+        DecisionForm::Json => answer_total(alloc, who.subject, at, files, status),
     }
 }
 

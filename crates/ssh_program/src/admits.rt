@@ -20,13 +20,13 @@ use crate::audit::unread;
 use crate::by_fingerprint::admits_by_fingerprint;
 use crate::client::Client;
 use crate::command::CommandError;
+use crate::decision_form::{DecisionForm, decision_form};
 use crate::question::HostQuestion;
-use crate::review::form;
 use jiff::tz::TimeZone;
 use ssh_files::{Files, read_top_line, zone_of};
 use ssh_offers::{EmptyPrincipals, HostQuery};
 use ssh_print::{OfferedKey, Response, Subject, read_offer, show_fault, stand_in};
-use ssh_review::{AskedAt, Form};
+use ssh_review::AskedAt;
 use std::alloc::{AllocError, Global};
 
 /// The names of the input files of `login` and `host`: a trust file, and a vouch file where one is
@@ -179,7 +179,7 @@ struct Host<'a> {
     now: u64,
     empty_principals: EmptyPrincipals,
     rsa_minimum: u32,
-    form: Form,
+    form: DecisionForm,
 }
 
 impl KeyQuestion for Host<'_> {
@@ -241,7 +241,7 @@ pub fn respond_trusts<F: Files>(
     let port = words.usual_port()?;
     let empty_principals = words.empty_principals()?;
     let rsa_minimum = words.rsa_minimum()?;
-    let form = form(words)?;
+    let form = decision_form(words)?;
     let name = words.needed(ArgName::Host)?;
     let names = words.needed_names()?;
     let host = Host {

@@ -27,6 +27,7 @@ use crate::admission::{
 use crate::args::{ArgName, Args};
 use crate::client::Client;
 use crate::command::CommandError;
+use crate::decision_form::DecisionForm;
 use crate::fingerprint_value::read_fingerprint;
 use jiff::tz::TimeZone;
 use ssh_files::{Files, ReadError, read_whole};
@@ -36,26 +37,26 @@ use ssh_print::{
     OfferedKey, Otherwise, Response, Subject, absent_text, audit_fault, find_key, other_unreported,
     stand_in,
 };
-use ssh_review::{Form, answer_object};
+use ssh_review::answer_object;
 use ssh_trust::{Cause, Decision};
 use std::alloc::{AllocError, Global};
 
 /// The printed answer of a file that holds no key of the fingerprint, or its object.
 fn absent_in(
     alloc: Global,
-    form: Form,
+    form: DecisionForm,
     name: &[u8],
     other: &Otherwise,
 ) -> Result<Vec<u8>, AllocError>
     ensures { IfOk result (λ text. text.items ≡ absent_in form name.now (otherwise_seen other.now)) }
 {
     match form {
-        Form::Text => {
+        DecisionForm::Text => {
             let mut text = absent_text(alloc, name)?;
             text.extend_from_slice(&other.text)?;
             Ok(text)
         }
-        Form::Json => {
+        DecisionForm::Json => {
             let denied: Result<Decision, AuditError> = Ok(Decision::Denied {
                 why: Cause::NoLine,
                 reasons: Items::new(alloc),
@@ -69,7 +70,7 @@ fn absent_in(
 /// The answer of a file that holds no key of the fingerprint.
 fn tell_absent(
     alloc: Global,
-    form: Form,
+    form: DecisionForm,
     name: &[u8],
     file: &[u8],
 ) -> Result<FileAnswer, AllocError>

@@ -5,13 +5,13 @@ ghost use Rattle.std.specs.Prelude.{◌<◌, ◌^◌, length};
 use crate::admission::AnswerForm;
 use crate::args::{ArgName, Args};
 use crate::command::CommandError;
+use crate::decision_form::{DecisionForm, decision_form};
 use crate::question::LoginQuestion;
-use crate::review::form;
 use crate::review_zone::zone_text;
 use jiff::tz::TimeZone;
 use ssh_offers::{EmptyPrincipals, LoginQuery};
 use ssh_print::{OfferedKey, Subject, login_algorithm};
-use ssh_review::{AskedAt, Form};
+use ssh_review::AskedAt;
 
 /// Who logs in, from where and when, and how the answer is printed.
 #[derive(Drop)]
@@ -25,7 +25,7 @@ pub struct Client<'a> {
     pub rule: &'a [u8],
     pub empty_principals: EmptyPrincipals,
     pub rsa_minimum: u32,
-    pub form: Form,
+    pub form: DecisionForm,
     ghost short: { length user.now < 2 ^ 32 },
 }
 
@@ -54,7 +54,7 @@ impl<'a> Client<'a> {
         let zone = ArgName::Zone.or_fault(zone)?;
         let empty_principals = words.empty_principals()?;
         let rsa_minimum = words.rsa_minimum()?;
-        let form = form(words)?;
+        let form = decision_form(words)?;
         let address = words.needed(ArgName::Address)?;
         let rule = zone_text(words.given(ArgName::Zone));
         Ok(Client {

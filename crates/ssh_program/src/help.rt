@@ -152,7 +152,7 @@ fn form_sentence(command: Subcommand) -> &'static [u8]
 {
     match command {
         Subcommand::Review => {
-            b"text (so without it), json for one object on each line, or html for one page to look at, print and sign"
+            b"text (so without it), json for one object a line, line for a table, html for a page to look at, print and sign"
         }
         _ => b"text (so without it), or json for one object on each line",
     }
@@ -242,7 +242,7 @@ pub fn wanted_value(option: ArgName) -> &'static [u8]
         ArgName::Findings => b"all, none, or codes from F1 to F22 joined by commas",
         ArgName::FailOn => b"all, none, or codes from F1 to F22 joined by commas",
         ArgName::Show => b"all, found or totals",
-        ArgName::Form => b"text or json, and of review also html",
+        ArgName::Form => b"text or json, and of review also line or html",
         ArgName::Title => b"a text",
         ArgName::Labels => b"host,account, and names that have both, each with a tab behind it",
         ArgName::FilesFrom => b"a file of names, each ended by NUL or by a line end",

@@ -9,7 +9,7 @@ ghost use Rattle.ssh_program.specs.Account.{NoneFailed};
 ghost use Rattle.ssh_program.specs.ArgsView.{Spells};
 ghost use Rattle.ssh_program.specs.FileReviews.{FailedIfStopped, TextPut, TextWritten, TextsWritten};
 ghost use Rattle.ssh_program.specs.FingerprintValues.{is_fingerprint};
-ghost use Rattle.ssh_program.specs.KeySeeking.{ReviewsFor, SeeksBy, SeeksKey, SeeksKeyOfFile, key_review_kept, key_review_of, key_status, key_total, no_key_lines, or_key_fault, spelled_fingerprint, telling_key_review, with_key_file};
+ghost use Rattle.ssh_program.specs.KeySeeking.{ReviewsFor, SeeksBy, SeeksKey, SeeksKeyOfFile, key_review_kept, key_review_of, key_status, key_total, key_lines_before, or_key_fault, spelled_fingerprint, telling_key_review, with_key_file};
 ghost use Rattle.ssh_program.specs.Namings.{names_seen};
 ghost use Rattle.ssh_review.specs.FileNames.{file_head, name_seen};
 ghost use Rattle.ssh_program.specs.OfferPrints.{offer_print};
@@ -20,12 +20,12 @@ use crate::args::ArgName;
 use crate::audit::unread;
 use crate::command::{CommandError, respond_fault};
 use crate::fingerprint_value::{is_fingerprint, read_fingerprint};
-use crate::offer_fingerprint::offer_print;
 use crate::naming::ListedNames;
+use crate::offer_fingerprint::offer_print;
 use crate::printing::{put_made, put_no_memory};
 use crate::review::{FOUND, NOTHING, ReviewKind, review_files, with_counted};
 use crate::sink::Sink;
-use crate::streaming::{FileReported, Stop, put_review, put_total, put_unread};
+use crate::streaming::{FileReported, Stop, put_first_lines, put_review, put_total, put_unread};
 use ssh_files::{Files, read_top_line, read_whole};
 use ssh_findings::{Code, ReviewOptions};
 use ssh_keys::digest_text;
@@ -154,10 +154,11 @@ fn tell_files<F: Files, W: Sink>(
     requires { NoneFailed (W.account writer.old) }
     ensures failed { FailedIfStopped result (W.account writer.new) }
     ensures reported { IfTells (F.source_state files.old) (λ s. TextsWritten with_key_file
-        (telling_key_review sought.now kind form (asking_of asked.entry.now)) no_key_lines
+        (telling_key_review sought.now kind form (asking_of asked.entry.now)) (key_lines_before form)
         (λ reported. reported.lines.text) (λ r. r.file.text) key_total (names_seen names.entry) s
         (F.source_state files.new) (W.account writer.old) (W.account writer.new) result) }
 {
+    put_first_lines(form, writer)?;
     let mut total = NOTHING;
     let mut stands = false;
     for word in names.words {

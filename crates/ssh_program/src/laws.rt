@@ -27,6 +27,7 @@ ghost use Rattle.ssh_print.specs.Denials.{HoldsAnother};
 ghost use Rattle.ssh_print.specs.PossibleLines.{sought_blob};
 ghost use Rattle.ssh_program.specs.Admissions.{status_by};
 ghost use Rattle.ssh_review.specs.FileNames.{NameSeen};
+ghost use Rattle.ssh_program.specs.declared.decision_form.DecisionForm.{DecisionForm};
 ghost use Rattle.ssh_review.specs.declared.end.Form.{Form};
 ghost use Rattle.ssh_program.specs.Clients.{login_asking};
 ghost use Rattle.ssh_trust.specs.declared.decision.Decision.{Decision as DecisionValue};
@@ -87,7 +88,7 @@ fn granted_rule()
 /// Where `admits` answers status 1 to a file, every line of it that cannot be read holds another key
 /// where sshd looks for one.
 fn denied_rule()
-    ensures { (form : Form) (rule : List ℕ) (q : Login) (claim : LoginClaim)
+    ensures { (form : DecisionForm) (rule : List ℕ) (q : Login) (claim : LoginClaim)
         (evidence : List Signed) (name file line : List ℕ) (i : ℕ) (cause : LineCause)
         → login_claim q ≡ Ok claim
         → status_by (login_asking form rule q) evidence name file ≡ 1

@@ -27,6 +27,7 @@ mod client;
 mod command;
 mod complaint;
 mod date;
+mod decision_form;
 mod decisions;
 mod defaults;
 mod file_question;

@@ -13,7 +13,7 @@ ghost use Rattle.ssh_program.specs.Totals.{fault_count, nothing, total_status, w
 ghost use Rattle.ssh_findings.specs.Asking.{asking_of};
 ghost use Rattle.ssh_files.specs.SourceState.{IfTells};
 ghost use Rattle.ssh_program.specs.Account.{NoneFailed};
-ghost use Rattle.ssh_program.specs.FileReviews.{FailedIfStopped, ReviewsFiles, TextPut, TextWritten, TextsWritten, review_kept, kind_name, no_lines, review_of, telling_review, with_file};
+ghost use Rattle.ssh_program.specs.FileReviews.{FailedIfStopped, ReviewsFiles, TextPut, TextWritten, TextsWritten, review_kept, file_kind, kind_name, lines_before, review_of, telling_review, with_file};
 ghost use Rattle.ssh_program.specs.Namings.{names_seen};
 ghost use Rattle.ssh_review.specs.FileNames.{file_head, name_seen};
 ghost use Rattle.ssh_program.specs.Printing.{WritesAnswer};
@@ -31,10 +31,11 @@ use crate::review_form::{ReviewForm, review_form};
 use crate::review_page::review_page;
 use crate::review_zone::{given_rule, is_zone_given, zone_text};
 use crate::sink::Sink;
-use crate::streaming::{FileReported, Stop, put_review, put_total, put_unread};
+use crate::streaming::{FileReported, Stop, put_first_lines, put_review, put_total, put_unread};
 use jiff::tz::TimeZone;
 use ssh_files::{Files, read_bits, read_whole, zone_of};
 use ssh_findings::{Code, ReviewOptions, parse_codes};
+use ssh_page::FileKind;
 use ssh_print::{DONE, FAULT};
 use ssh_review::{
     Counts, FaultCounts, FileFault, FileName, Form, Show, Total, auth_records, file_head,
@@ -74,6 +75,16 @@ pub fn kind_name(kind: ReviewKind) -> &'static [u8]
     }
 }
 
+/// The format of the files, as the page and the table have it.
+pub(crate) fn file_kind(kind: ReviewKind) -> FileKind
+    ensures { result ≡ file_kind kind }
+{
+    match kind {
+        ReviewKind::Auth => FileKind::AuthorizedKeys,
+        ReviewKind::Known => FileKind::KnownHosts,
+    }
+}
+
 /// The format of the files under review.
 pub fn review_kind(words: &Args<'_>) -> Result<ReviewKind, CommandError>
     ensures { Spells (λ k. k) (value review_kind_of option.Kind (rows_in words.now)) result }
@@ -108,30 +119,6 @@ pub fn reported_codes(alloc: Global, words: &Args<'_>) -> Result<Vec<Code>, Comm
         Some(text) => parse_codes(alloc, text.as_bytes())?,
     };
     ArgName::Findings.or_fault(read)
-}
-
-/// The output format by its name in `--form`.
-fn read_form(word: &str) -> Option<Form>
-    ensures { result ≡ form_of word.now }
-{
-    if word == "text" {
-        Some(Form::Text)
-    } else if word == "json" {
-        Some(Form::Json)
-    } else {
-        None
-    }
-}
-
-/// The output format: text where the option is not given.
-pub fn form(words: &Args<'_>) -> Result<Form, CommandError>
-    ensures { Spells (λ f. f) (value_or Text form_of option.Form (rows_in words.now)) result }
-{
-    let read = match words.given(ArgName::Form) {
-        None => Some(Form::Text),
-        Some(word) => read_form(word),
-    };
-    ArgName::Form.or_fault(read)
 }
 
 /// The status where something was found.
@@ -259,8 +246,8 @@ fn put_file<F: Files, W: Sink>(
     put_headed(alloc, kind, show, form, asked, name, &head, files, writer)
 }
 
-/// Writes the reviews of the files of these names, one after the other, and returns their total. In
-/// memory are one file, what is stored of its lines, and the records that are written next.
+/// Writes the reviews of the files of these names, one after the other, a table behind its header, and
+/// returns their total. In memory are one file, what is stored of its lines, and the records that are written next.
 fn tell_files<F: Files, W: Sink>(
     alloc: Global,
     kind: ReviewKind,
@@ -274,10 +261,11 @@ fn tell_files<F: Files, W: Sink>(
     requires { NoneFailed (W.account writer.old) }
     ensures failed { FailedIfStopped result (W.account writer.new) }
     ensures reported { IfTells (F.source_state files.old) (λ s. TextsWritten with_file
-        (telling_review kind show form (asking_of asked.entry.now)) no_lines (λ reported. reported.text)
+        (telling_review kind show form (asking_of asked.entry.now)) (lines_before form) (λ reported. reported.text)
         (λ r. r.text) (λ reported. reported.total) (names_seen names.entry) s (F.source_state files.new)
         (W.account writer.old) (W.account writer.new) result) }
 {
+    put_first_lines(form, writer)?;
     let mut total = NOTHING;
     for word in names.words {
         let name = names.naming.name_of(word);

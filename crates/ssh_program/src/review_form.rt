@@ -1,14 +1,15 @@
 //! How the answer to `review` is printed: as lines of an output format, or as a page.
 
 ghost use Rattle.std.specs.Prelude.{◌≡◌, option_map};
+ghost use Rattle.ssh_review.specs.declared.end.Form.TheVariants.{Text};
 ghost use Rattle.ssh_program.specs.ArgsView.{Spells, rows_in};
-ghost use Rattle.ssh_program.specs.ReviewForms.{asks_page, form_seen, is_page, lines_form, lines_shown, page_form, review_form, title_or};
-ghost use Rattle.ssh_program.specs.Spelling.{given};
+ghost use Rattle.ssh_program.specs.ReviewForms.{asks_page, form_of, form_seen, is_page, lines_form, lines_shown, page_form, review_form, title_or};
+ghost use Rattle.ssh_program.specs.Spelling.{given, value_or};
 ghost use Rattle.ssh_program.specs.declared.args.ArgName.TheVariants as option;
 
 use crate::args::{ArgName, Args};
 use crate::command::CommandError;
-use crate::review::{ReviewKind, form};
+use crate::review::{ReviewKind, file_kind};
 use crate::review_show::show_asked;
 use ssh_review::{Form, Show};
 
@@ -57,21 +58,47 @@ fn page_form<'a>(words: &Args<'a>, kind: ReviewKind) -> Result<ReviewForm<'a>, C
     }
 }
 
-/// The output format, and what of the lines is shown.
-fn lines_shown<'a>(words: &Args<'a>) -> Result<ReviewForm<'a>, CommandError>
-    ensures { Spells form_seen (lines_shown (rows_in words.now)) result }
+/// The output format for files of this kind, by its name in `--form`.
+fn read_form(kind: ReviewKind, word: &str) -> Option<Form>
+    ensures { result ≡ form_of kind word.now }
 {
-    let form = form(words)?;
+    if word == "text" {
+        Some(Form::Text)
+    } else if word == "json" {
+        Some(Form::Json)
+    } else if word == "line" {
+        Some(Form::Line(file_kind(kind)))
+    } else {
+        None
+    }
+}
+
+/// The output format: text where the option is not given.
+fn form(words: &Args<'_>, kind: ReviewKind) -> Result<Form, CommandError>
+    ensures { Spells (λ f. f) (value_or Text (form_of kind) option.Form (rows_in words.now)) result }
+{
+    let read = match words.given(ArgName::Form) {
+        None => Some(Form::Text),
+        Some(word) => read_form(kind, word),
+    };
+    ArgName::Form.or_fault(read)
+}
+
+/// The output format, and what of the lines is shown.
+fn lines_shown<'a>(words: &Args<'a>, kind: ReviewKind) -> Result<ReviewForm<'a>, CommandError>
+    ensures { Spells form_seen (lines_shown kind (rows_in words.now)) result }
+{
+    let form = form(words, kind)?;
     let show = show_asked(words)?;
     Ok(ReviewForm::Lines(show, form))
 }
 
 /// Lines have no title.
-fn lines_form<'a>(words: &Args<'a>) -> Result<ReviewForm<'a>, CommandError>
-    ensures { Spells form_seen (lines_form (rows_in words.now)) result }
+fn lines_form<'a>(words: &Args<'a>, kind: ReviewKind) -> Result<ReviewForm<'a>, CommandError>
+    ensures { Spells form_seen (lines_form kind (rows_in words.now)) result }
 {
     match words.given(ArgName::Title) {
-        None => lines_shown(words),
+        None => lines_shown(words, kind),
         Some(_) => Err(CommandError::Usage),
     }
 }
@@ -83,6 +110,6 @@ pub fn review_form<'a>(words: &Args<'a>, kind: ReviewKind) -> Result<ReviewForm<
     if asks_page(words) {
         page_form(words, kind)
     } else {
-        lines_form(words)
+        lines_form(words, kind)
     }
 }

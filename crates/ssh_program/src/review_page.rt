@@ -13,13 +13,14 @@ ghost use Rattle.ssh_text.specs.Text.{file_limit};
 ghost use Rattle.ssh_program.specs.Account.{NoneFailed};
 ghost use Rattle.ssh_program.specs.Namings.{names_seen};
 ghost use Rattle.ssh_review.specs.FileNames.{name_seen, shown_name};
-ghost use Rattle.ssh_program.specs.PageReviews.{FileGiven, IsReported, PageReported, ReviewsPage, fault_kept, fault_read, given_kept, made_response, page_kind, page_rest, parts_response, parts_seen, row_by, section_by, telling_given};
+ghost use Rattle.ssh_program.specs.PageReviews.{FileGiven, IsReported, PageReported, ReviewsPage, fault_kept, fault_read, given_kept, made_response, page_rest, parts_response, parts_seen, row_by, section_by, telling_given};
+ghost use Rattle.ssh_program.specs.FileReviews.{file_kind};
 ghost use Rattle.ssh_program.specs.Printing.{Breaks, TakesAll, WritesAnswer, WritesResponse};
 
 use crate::naming::ListedNames;
 use crate::page_front::front_of;
 use crate::printing::{put_bytes, put_no_memory};
-use crate::review::{NOTHING, ReviewKind, total_status, with_counted};
+use crate::review::{NOTHING, ReviewKind, file_kind, total_status, with_counted};
 use crate::sink::Sink;
 use crate::streaming::FileReported;
 use arrayvec::ArrayVec;
@@ -50,16 +51,6 @@ pub struct MadePage {
     pub front: Vec<u8>,
     pub body: Vec<u8>,
     pub status: u8,
-}
-
-/// The format of the files, as the page has it.
-fn page_kind(kind: ReviewKind) -> FileKind
-    ensures { result ≡ page_kind kind }
-{
-    match kind {
-        ReviewKind::Auth => FileKind::AuthorizedKeys,
-        ReviewKind::Known => FileKind::KnownHosts,
-    }
 }
 
 /// Appends what a file of this name and these bytes has on the page. Returns what is counted.
@@ -130,13 +121,7 @@ fn push_unread(
     match fault {
         ReadError::Memory => Err(AllocError),
         ReadError::TooLong => push_fault(number, name, FileFault::TooLong, sections, register),
-        _ => push_fault(
-            number,
-            name,
-            FileFault::Unread(cause),
-            sections,
-            register,
-        ),
+        _ => push_fault(number, name, FileFault::Unread(cause), sections, register),
     }
 }
 
@@ -159,9 +144,7 @@ fn tell_shown<F: Files>(
         register.old.items register.new.items reported) }
 {
     match read_whole(alloc, files, name.path) {
-        Ok(file) => push_reviewed(
-            alloc, kind, number, asked, shown, &file, sections, register,
-        ),
+        Ok(file) => push_reviewed(alloc, kind, number, asked, shown, &file, sections, register),
         Err(fault) => {
             let cause = files.unread_cause(name.path);
             push_unread(number, shown, fault, cause, sections, register)
@@ -187,7 +170,9 @@ fn tell_file<F: Files>(
         register.old.items register.new.items reported) }
 {
     let shown = shown_name(alloc, name)?;
-    tell_shown(alloc, kind, number, asked, name, &shown, files, sections, register)
+    tell_shown(
+        alloc, kind, number, asked, name, &shown, files, sections, register,
+    )
 }
 
 /// What the files of these names have on the page, one after the other. In memory are the marked text
@@ -210,7 +195,7 @@ fn tell_files<F: Files>(
         let name = names.naming.name_of(word);
         let reported = tell_file(
             alloc,
-            page_kind(kind),
+            file_kind(kind),
             total.files,
             asked,
             name,
@@ -254,7 +239,7 @@ fn made_of(
     ensures { IfOk result (λ made. made_response made
         ≡ parts_response failing.now title.now kind rule.now (asking_of asked.entry.now) (parts_seen parts)) }
 {
-    let front = front_of(alloc, title, page_kind(kind), rule, asked, &parts.total)?;
+    let front = front_of(alloc, title, file_kind(kind), rule, asked, &parts.total)?;
     let words = total_words(alloc, rule, asked, &parts.total)?;
     let status = total_status(failing, &parts.total);
     let mut body = parts.sections;

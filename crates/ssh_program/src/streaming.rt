@@ -12,7 +12,7 @@ ghost use Rattle.ssh_review.specs.Reviews.{fault_review};
 ghost use Rattle.ssh_review.specs.ShownRecords.{shown_end};
 ghost use Rattle.ssh_program.specs.declared.streaming.Stop.TheVariants.{Memory, Write};
 ghost use Rattle.ssh_program.specs.Account.{NoneFailed};
-ghost use Rattle.ssh_program.specs.FileReviews.{FailedIfStopped, TextPut, UnreadPut, review_kept, kind_name};
+ghost use Rattle.ssh_program.specs.FileReviews.{BeforePut, FailedIfStopped, TextPut, UnreadPut, review_kept, kind_name};
 ghost use Rattle.ssh_program.specs.Printing.{WritesAnswer};
 
 use crate::pieces::put_lines;
@@ -23,8 +23,8 @@ use sha2::{Digest, Sha256};
 use ssh_files::{ReadError, UnreadCause};
 use ssh_findings::ReviewOptions;
 use ssh_review::{
-    Counts, FileFault, Form, LineRecords, RecordForm, Records, Show, Total, push_end, review_fault,
-    total_line,
+    Counts, FileFault, Form, LineRecords, RecordForm, Records, Show, Total, first_lines, push_end,
+    review_fault, total_line,
 };
 use std::alloc::{AllocError, Global};
 use std::io::Error;
@@ -61,6 +61,16 @@ pub struct FileReported {
     pub counts: Counts,
     pub stands: bool,
     pub fault: Option<FileFault>,
+}
+
+/// Writes what stands before the first file: the header of a table.
+pub(crate) fn put_first_lines<W: Sink>(form: Form, writer: &mut W) -> Result<(), Stop>
+    requires { NoneFailed (W.account writer.old) }
+    ensures failed { FailedIfStopped result (W.account writer.new) }
+    ensures put { BeforePut form (W.account writer.old) (W.account writer.new) result }
+{
+    put_lines(writer, first_lines(form))?;
+    Ok(())
 }
 
 /// Appends the end of a file that was reviewed, if ends are shown.

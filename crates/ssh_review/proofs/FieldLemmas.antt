@@ -1,5 +1,5 @@
 -- The fields of an object are of printable ASCII.
-use Rattle.ssh_review.proofs.Imports.{◌≡◌, ℕ, nat_lt, Bool, true, false, cond, List, [], ◌++◌, ℤ, Option, Some, None, codes, refl, field_name, moment_or_null, null_field, number_field, number_or_null, text_field, text_or_null, AreBytes, AreBytesIfAny, are_printable}
+use Rattle.ssh_review.proofs.Imports.{◌≡◌, ℕ, nat_lt, Bool, true, false, cond, List, [], ◌++◌, ℤ, Option, Some, None, codes, refl, field_name, moment_or_null, null_field, number_field, text_field, text_or_null, AreBytes, AreBytesIfAny, are_printable}
 use Rattle.ssh_review.specs.Fields.{count_field, object_field, truth_field}
 use Rattle.ssh_review.proofs.PrintableLemmas.{ArePrintable, bytes-from_printable, decimal-printable, join, rest-printable, signed-printable, string-printable, word}
 
@@ -36,10 +36,6 @@ count-printable name n h = go (nat_lt 0 n)
 
 pub object-printable : (name fields : List ℕ) → are_printable name ≡ true → ArePrintable fields → ArePrintable (object_field name fields)
 object-printable name fields h k = join (join (name-then name h (word (codes "{") refl)) (rest-printable k)) (word (codes "}") refl)
-
-pub any-number-printable : (name : List ℕ) (n : Option ℕ) → are_printable name ≡ true → ArePrintable (number_or_null name n)
-any-number-printable name None h = null-printable name h
-any-number-printable name (Some n) h = number-printable name n h
 
 pub any-moment-printable : (name : List ℕ) (n : Option ℤ) → are_printable name ≡ true → ArePrintable (moment_or_null name n)
 any-moment-printable name None h = null-printable name h

@@ -125,12 +125,12 @@ pub use Rattle.ssh_review.specs.OptionsText.{options_text}
 pub use Rattle.ssh_review.specs.Records.{carried_inset, bits_text, comment_text, held_words, place_text, role_word}
 pub use Rattle.ssh_review.specs.Reviews.{fault_review, auth_review}
 pub use Rattle.ssh_review.specs.RightsWords.{without_space}
-pub use Rattle.ssh_review.specs.Shown.{are_shown, is_shown}
+pub use Rattle.ssh_review.specs.Shown.{are_shown, are_shown_in, is_shown, is_shown_in, is_shown_or_tab}
 pub use Rattle.ssh_review.specs.declared.end.Counts.{Counts}
 pub use Rattle.ssh_review.specs.declared.end.FileFault.{FileFault}
 pub use Rattle.ssh_review.specs.declared.end.FileFault.TheVariants.{TooLong, Unread}
 pub use Rattle.ssh_review.specs.declared.end.Form.{Form}
-pub use Rattle.ssh_review.specs.declared.end.Form.TheVariants.{Json, Text}
+pub use Rattle.ssh_review.specs.declared.end.Form.TheVariants.{Json, Line, Text}
 pub use Rattle.ssh_review.specs.declared.records.RecordForm.{RecordForm}
 pub use Rattle.ssh_review.specs.declared.records.RecordForm.TheVariants.{AsLines, AsRow}
 pub use Rattle.ssh_review.specs.declared.end.Total.{Total}

@@ -9,12 +9,15 @@ pub mod DigestLemmas
 pub mod ShownLemmas
 pub mod TextLemmas
 pub mod EndLemmas
+pub mod EndWordLemmas
 pub mod RecordLemmas
 pub mod ReviewLemmas
 pub mod UnquotedLemmas
 pub mod PrintableLemmas
 pub mod WordLemmas
 pub mod FieldLemmas
+pub mod RecordFieldLemmas
+pub mod TableLemmas
 pub mod FileNameLemmas
 pub mod FoundLemmas
 pub mod RowLemmas

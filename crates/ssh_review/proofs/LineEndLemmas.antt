@@ -1,13 +1,15 @@
 -- Records are whole lines: each is nothing, or its last byte is an LF.
-use Rattle.ssh_review.proofs.Imports.{◌≡◌, ◌∙◌, ℕ, ℤ, Bool, true, false, List, [], ◌∷◌, ◌++◌, refl, sym, ap, subst, inl, inr, append_assoc, append-nil, codes, flat_map, Option, Some, None, AuthLine, Blank, Comment, Entry, Unreadable, KnownLine, Revoked, RevokedUnreadable, Asking, RecordForm, AsLines, AsRow, Text, Json, Facts, Finding, HostFacts, RevocationFacts, HostFinding, HeldKey, FindingRow, Held, HostLine, Rights, AuthOption, auth_row, host_row, line_record, host_line_record, finding_line, host_finding_line, row_line, rows_end, rows_list, carried_inset, carried_word, place_text, held_words, escaped_text, moment_text}
+use Rattle.ssh_review.proofs.Imports.{◌≡◌, ◌∙◌, ℕ, ℤ, Bool, true, false, List, [], ◌∷◌, ◌++◌, refl, sym, ap, subst, inl, inr, append_assoc, append-nil, codes, flat_map, Option, Some, None, AuthLine, Blank, Comment, Entry, Unreadable, KnownLine, Revoked, RevokedUnreadable, Asking, RecordForm, AsLines, AsRow, Text, Json, Line, Facts, Finding, HostFacts, RevocationFacts, HostFinding, HeldKey, FindingRow, Held, HostLine, Rights, AuthOption, auth_row, host_row, line_record, host_line_record, finding_line, host_finding_line, row_line, rows_list, carried_inset, carried_word, place_text, held_words, escaped_text, moment_text}
 use Rattle.std.specs.Prelude.{if◌then◌else◌}
 use Rattle.ssh_entries.specs.declared.known_line.KnownLine.TheVariants as known
 use Rattle.ssh_print.specs.Texts.{text_line, word_line}
-use Rattle.ssh_review.specs.Findings.{finding_head, row_detail, row_sentence}
-use Rattle.ssh_review.specs.HostObjects.{bare_object, host_entry_object, revoked_object}
+use Rattle.ssh_review.specs.Findings.{finding_head, record_end, row_detail, row_sentence, words_list}
+use Rattle.ssh_review.specs.HostObjects.{bare_in, host_entry_in, revoked_in}
 use Rattle.ssh_review.specs.HostRecords.{bare_text, host_entry_head, host_entry_text, print_of, revoked_names, revoked_text}
 use Rattle.ssh_review.specs.Making.{IsWrittenInLines, AreWholeLines, EndsLine}
-use Rattle.ssh_review.specs.Objects.{entry_object, unreadable_object}
+use Rattle.ssh_review.specs.Objects.{entry_in, unreadable_in}
+use Rattle.ssh_review.specs.declared.record_field.FieldForm.{FieldForm}
+use Rattle.ssh_review.specs.declared.record_field.FieldForm.TheVariants.{Cell, Member}
 use Rattle.ssh_review.specs.Records.{entry_head, entry_text, fingerprint_word, flag_line, limit_lines, right_lines, rights_inset, setting_line, unreadable_text, until_line}
 use Rattle.ssh_review.specs.RightsWords.{rights_words}
 use Rattle.ssh_findings.specs.Codes.{code_text}
@@ -116,30 +118,31 @@ bare-text-ends name n is held found =
     then-lines (place_text name n ++ is ++ held_words held ++ codes "\n") (flat_map host_finding_line found)
     (ended (place_text name n ++ is ++ held_words held)) (host-findings-lines found)
 
--- ---- JSON
+-- ---- fields
 
-rows-end : {F : Type 0} (row : F → FindingRow) (found : List F) → EndsLine (rows_end row found)
-rows-end row found = after (codes ",\"findings\":[" ++ rows_list row found) (codes "]}\n") (ended (codes "]}"))
+fields-end : {F : Type 0} (form : FieldForm) (row : F → FindingRow) (found : List F) → EndsLine (record_end form row found)
+fields-end Member row found = after (codes ",\"findings\":[" ++ rows_list row found) (codes "]}\n") (ended (codes "]}"))
+fields-end Cell row found = ended (codes "\t" ++ words_list row found ++ codes "\t")
 
-entry-object-ends : (name : List ℕ) (n : ℕ) (f : Facts) (options : List AuthOption) (shadowed_by : Option ℕ) (lets_in : Bool) (found : List Finding) → EndsLine (entry_object name n f options shadowed_by lets_in found)
-unfolding entry_object
-entry-object-ends name n f options shadowed_by lets_in found = after _ (rows_end auth_row found) (rows-end auth_row found)
+entry-ends : (form : FieldForm) (head : List ℕ) (n : ℕ) (f : Facts) (options : List AuthOption) (shadowed_by : Option ℕ) (lets_in : Bool) (found : List Finding) → EndsLine (entry_in form head n f options shadowed_by lets_in found)
+unfolding entry_in
+entry-ends form head n f options shadowed_by lets_in found = after _ (record_end form auth_row found) (fields-end form auth_row found)
 
-unreadable-object-ends : (name : List ℕ) (n : ℕ) (held : Option HeldKey) (found : List Finding) → EndsLine (unreadable_object name n held found)
-unfolding unreadable_object
-unreadable-object-ends name n held found = after _ (rows_end auth_row found) (rows-end auth_row found)
+unreadable-ends : (form : FieldForm) (head : List ℕ) (n : ℕ) (held : Option HeldKey) (found : List Finding) → EndsLine (unreadable_in form head n held found)
+unfolding unreadable_in
+unreadable-ends form head n held found = after _ (record_end form auth_row found) (fields-end form auth_row found)
 
-host-entry-object-ends : (name : List ℕ) (n : ℕ) (f : HostFacts) (found : List HostFinding) → EndsLine (host_entry_object name n f found)
-unfolding host_entry_object
-host-entry-object-ends name n f found = after _ (rows_end host_row found) (rows-end host_row found)
+host-entry-ends : (form : FieldForm) (head : List ℕ) (n : ℕ) (f : HostFacts) (found : List HostFinding) → EndsLine (host_entry_in form head n f found)
+unfolding host_entry_in
+host-entry-ends form head n f found = after _ (record_end form host_row found) (fields-end form host_row found)
 
-revoked-object-ends : (name : List ℕ) (n : ℕ) (bytes : List ℕ) (f : RevocationFacts) (found : List HostFinding) → EndsLine (revoked_object name n bytes f found)
-unfolding revoked_object
-revoked-object-ends name n bytes f found = after _ (rows_end host_row found) (rows-end host_row found)
+revoked-ends : (form : FieldForm) (head : List ℕ) (n : ℕ) (bytes : List ℕ) (f : RevocationFacts) (found : List HostFinding) → EndsLine (revoked_in form head n bytes f found)
+unfolding revoked_in
+revoked-ends form head n bytes f found = after _ (record_end form host_row found) (fields-end form host_row found)
 
-bare-object-ends : (name : List ℕ) (n : ℕ) (is : List ℕ) (held : Option HeldKey) (found : List HostFinding) → EndsLine (bare_object name n is held found)
-unfolding bare_object
-bare-object-ends name n is held found = after _ (rows_end host_row found) (rows-end host_row found)
+bare-ends : (form : FieldForm) (head : List ℕ) (n : ℕ) (is : List ℕ) (held : Option HeldKey) (found : List HostFinding) → EndsLine (bare_in form head n is held found)
+unfolding bare_in
+bare-ends form head n is held found = after _ (record_end form host_row found) (fields-end form host_row found)
 
 -- ---- records
 
@@ -147,9 +150,11 @@ pub record-lines : (form : RecordForm) (asking : Asking) (name : List ℕ) (held
 record-lines form asking name held n line Blank lines = inl refl
 record-lines form asking name held n line Comment lines = inl refl
 record-lines (AsLines Text) asking name held n line (Entry e) lines = inr (entry-text-ends name n _ _)
-record-lines (AsLines Json) asking name held n line (Entry e) lines = inr (entry-object-ends name n _ _ _ _ _)
+record-lines (AsLines Json) asking name held n line (Entry e) lines = inr (entry-ends Member name n _ _ _ _ _)
+record-lines (AsLines (Line kind)) asking name held n line (Entry e) lines = inr (entry-ends Cell name n _ _ _ _ _)
 record-lines (AsLines Text) asking name held n line (Unreadable cause) lines = inr (unreadable-text-ends name n _ _)
-record-lines (AsLines Json) asking name held n line (Unreadable cause) lines = inr (unreadable-object-ends name n _ _)
+record-lines (AsLines Json) asking name held n line (Unreadable cause) lines = inr (unreadable-ends Member name n _ _)
+record-lines (AsLines (Line kind)) asking name held n line (Unreadable cause) lines = inr (unreadable-ends Cell name n _ _)
 record-lines (AsRow file) asking name held n line (Entry e) lines = absurd lines
 record-lines (AsRow file) asking name held n line (Unreadable cause) lines = absurd lines
 
@@ -157,13 +162,17 @@ pub host-record-lines : (form : RecordForm) (asking : Asking) (name : List ℕ) 
 host-record-lines form asking name earlier n line known.Blank lines = inl refl
 host-record-lines form asking name earlier n line known.Comment lines = inl refl
 host-record-lines (AsLines Text) asking name earlier n line (known.Entry e) lines = inr (host-entry-text-ends name n _ _)
-host-record-lines (AsLines Json) asking name earlier n line (known.Entry e) lines = inr (host-entry-object-ends name n _ _)
+host-record-lines (AsLines Json) asking name earlier n line (known.Entry e) lines = inr (host-entry-ends Member name n _ _)
+host-record-lines (AsLines (Line kind)) asking name earlier n line (known.Entry e) lines = inr (host-entry-ends Cell name n _ _)
 host-record-lines (AsLines Text) asking name earlier n line (Revoked bytes) lines = inr (revoked-text-ends name n bytes _ _)
-host-record-lines (AsLines Json) asking name earlier n line (Revoked bytes) lines = inr (revoked-object-ends name n bytes _ _)
+host-record-lines (AsLines Json) asking name earlier n line (Revoked bytes) lines = inr (revoked-ends Member name n bytes _ _)
+host-record-lines (AsLines (Line kind)) asking name earlier n line (Revoked bytes) lines = inr (revoked-ends Cell name n bytes _ _)
 host-record-lines (AsLines Text) asking name earlier n line RevokedUnreadable lines = inr (bare-text-ends name n _ _ _)
-host-record-lines (AsLines Json) asking name earlier n line RevokedUnreadable lines = inr (bare-object-ends name n _ _ _)
+host-record-lines (AsLines Json) asking name earlier n line RevokedUnreadable lines = inr (bare-ends Member name n _ _ _)
+host-record-lines (AsLines (Line kind)) asking name earlier n line RevokedUnreadable lines = inr (bare-ends Cell name n _ _ _)
 host-record-lines (AsLines Text) asking name earlier n line (known.Unreadable cause) lines = inr (bare-text-ends name n _ _ _)
-host-record-lines (AsLines Json) asking name earlier n line (known.Unreadable cause) lines = inr (bare-object-ends name n _ _ _)
+host-record-lines (AsLines Json) asking name earlier n line (known.Unreadable cause) lines = inr (bare-ends Member name n _ _ _)
+host-record-lines (AsLines (Line kind)) asking name earlier n line (known.Unreadable cause) lines = inr (bare-ends Cell name n _ _ _)
 host-record-lines (AsRow file) asking name earlier n line (known.Entry e) lines = absurd lines
 host-record-lines (AsRow file) asking name earlier n line (Revoked bytes) lines = absurd lines
 host-record-lines (AsRow file) asking name earlier n line RevokedUnreadable lines = absurd lines

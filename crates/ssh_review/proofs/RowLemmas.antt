@@ -1,14 +1,18 @@
 -- What is printed of findings is of printable ASCII.
-use Rattle.ssh_review.proofs.Imports.{◌≡◌, ℕ, true, List, [], ◌∷◌, ◌++◌, refl, append_assoc, codes, flat_map, LineCause, Ground, Finding, HostFinding, code_text, FindingRow, auth_row, host_row, Value, cause_text, detail_part, detail_with, finding_head, object_after_comma, row_detail, row_line, row_object, rows_end, rows_list, value_text, are_printable, is_line}
+use Rattle.ssh_review.proofs.Imports.{◌≡◌, ◌∙◌, ◌+◌, ℕ, true, List, [], ◌∷◌, ◌++◌, refl, sym, append_assoc, codes, flat_map, LineCause, Ground, Finding, HostFinding, code_text, FindingRow, auth_row, host_row, Value, cause_text, detail_part, detail_with, finding_head, object_after_comma, row_detail, row_line, row_object, rows_end, rows_list, value_text, are_printable, is_line}
 use Rattle.ssh_options.specs.declared.option_text.LineCause.TheVariants as cause
 use Rattle.ssh_print.specs.Table.{answers, lines, reasons, row_of, table}
 use Rattle.ssh_findings.specs.declared.finding.Finding.TheVariants as finding
 use Rattle.ssh_findings.specs.declared.host_finding.HostFinding.TheVariants as host
 use Rattle.ssh_findings.specs.declared.openssh.Ground.TheVariants as grounds
-use Rattle.ssh_review.specs.Findings.{code_object}
+use Rattle.ssh_review.specs.Findings.{cells_end, code_object, row_words, words_after_semicolon, words_list}
 use Rattle.ssh_findings.specs.declared.row.Value.TheVariants.{Nothing, Number, Cause}
 use Rattle.ssh_review.proofs.FieldLemmas.{said-printable}
 use Rattle.ssh_review.proofs.PrintableLemmas.{ArePrintable, bytes-from_printable, decimal-printable, join, line-from, string-printable, word}
+use Rattle.ssh_review.proofs.RecordFieldLemmas.{AreFields, also, cell, empty-cell}
+use Rattle.ssh_review.specs.Tables.{IsRow, header, tabs_in}
+use Rattle.ssh_review.specs.declared.record_field.FieldForm.TheVariants.{Cell}
+use Rattle.ssh_page.specs.declared.file.FileKind.{FileKind}
 use Rattle.ssh_review.proofs.ShownLemmas.{AreShown, add, seen, show}
 use Rattle.ssh_review.proofs.WordLemmas.{cause-printable, code-printable, ground-printable}
 
@@ -145,3 +149,27 @@ pub rows-end-line : {F : Type 0} {a : List ℕ} (row : F → FindingRow) → ((f
 rows-end-line {F} {a} row h found k =
     let listed = join (word (codes ",\"findings\":[") refl) (list-printable row h found) in
     rw (← append_assoc a (codes ",\"findings\":[" ++ rows_list row found) (codes "]}\n")) (line-from (codes "]}\n") (join k listed) refl)
+
+-- ---- in a cell
+
+words-printable : (r : FindingRow) → HasPrintable r → ArePrintable (row_words r)
+words-printable r h = join (code-printable r.code) (part-printable (row_detail r) (detail-printable r h))
+
+other-words-printable : {F : Type 0} (row : F → FindingRow) → ((f : F) → HasPrintable (row f)) → (found : List F) → ArePrintable (flat_map (words_after_semicolon row) found)
+other-words-printable row h [] = word [] refl
+other-words-printable row h (f ∷ found) = join (join (word (codes "; ") refl) (words-printable (row f) (h f))) (other-words-printable row h found)
+
+words-list-printable : {F : Type 0} (row : F → FindingRow) → ((f : F) → HasPrintable (row f)) → (found : List F) → ArePrintable (words_list row found)
+words-list-printable row h [] = word [] refl
+words-list-printable row h (f ∷ found) = join (words-printable (row f) (h f)) (other-words-printable row h found)
+
+pub cells-end-row : {F : Type 0} {n : ℕ} {a : List ℕ} (kind : FileKind) (row : F → FindingRow) → ((f : F) → HasPrintable (row f)) → (found : List F) → AreFields Cell n a
+    → n + 2 ≡ tabs_in (header kind) → IsRow kind (a ++ cells_end row found)
+cells-end-row {F} {n} {a} kind row h found k e =
+    let all = also k (also (cell (words-list-printable row h found)) empty-cell) in
+    record {
+      cells = a ++ (codes "\t" ++ words_list row found ++ codes "\t");
+      parts = sym (append_assoc a (codes "\t" ++ words_list row found ++ codes "\t") (codes "\n"));
+      shown = all.all;
+      tabs = all.tabs ∙ e;
+    }

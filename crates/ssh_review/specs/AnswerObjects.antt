@@ -23,7 +23,8 @@ use Rattle.ssh_print.specs.declared.admission_text.Subject.{Subject}
 use Rattle.ssh_review.specs.Asked.{Asked, asked_fields, total_head}
 use Rattle.ssh_review.specs.Fields.{array_field, null_field, number_field, number_or_null, text_field, text_or_null, truth_field}
 use Rattle.ssh_review.specs.HostRecords.{print_of}
-use Rattle.ssh_review.specs.Objects.{fingerprint_text, rights_field}
+use Rattle.ssh_review.specs.Objects.{fingerprint_text, rights_in}
+use Rattle.ssh_review.specs.declared.record_field.FieldForm.TheVariants.{Member}
 
 -- ---- fields
 
@@ -52,7 +53,7 @@ nothing_carried = array_field (codes "carry") []
 unfoldable pub answer_rights : Option Rights → List ℕ
 answer_rights None = no_rights ++ nothing_carried
 answer_rights (Some r) =
-    rights_field r ++ text_or_null (codes "command") r.command ++ array_field (codes "carry") (flat_map carried_element r.carried)
+    rights_in Member r ++ text_or_null (codes "command") r.command ++ array_field (codes "carry") (flat_map carried_element r.carried)
 
 -- why the key is denied, with the number of the revoking line or of the signature
 abbrev pub cause_number : Cause → Option ℕ

@@ -4,7 +4,7 @@ use Rattle.std.specs.Fmt.{decimal}
 use Rattle.ssh_files.specs.declared.files.UnreadCause.{UnreadCause}
 use Rattle.ssh_files.specs.declared.files.UnreadCause.TheVariants.{IsADirectory, NotFound, Other, PermissionDenied}
 use Rattle.ssh_findings.specs.Asking.{Asking}
-use Rattle.ssh_print.specs.Texts.{escaped_text, hex_text}
+use Rattle.ssh_print.specs.Texts.{hex_text}
 use Rattle.ssh_review.specs.Asked.{Asked, asked_words}
 use Rattle.ssh_review.specs.Found.{found_lines}
 use Rattle.ssh_review.specs.declared.end.Counts.{Counts}
@@ -21,9 +21,13 @@ counts_text c =
     count_text c.lines (codes " lines, ") ++ count_text c.keys (codes " key lines, ")
     ++ count_text c.unreadable (codes " unreadable, ") ++ count_text c.findings (codes " findings")
 
--- the end of a file, with the SHA-256 of its bytes
+-- the counts of a file, and the SHA-256 of its bytes
+abbrev pub end_words : Counts → List ℕ → List ℕ
+end_words counts digest = counts_text counts ++ codes ", sha256 " ++ hex_text digest
+
+-- the end of a file
 abbrev pub end_text : List ℕ → Counts → List ℕ → List ℕ
-end_text head counts digest = head ++ codes ": " ++ counts_text counts ++ codes ", sha256 " ++ hex_text digest ++ codes "\n"
+end_text head counts digest = head ++ codes ": " ++ end_words counts digest ++ codes "\n"
 
 abbrev pub fault_code : FileFault → List ℕ
 fault_code (Unread cause) = codes "A9"
@@ -41,9 +45,13 @@ abbrev pub why_text : FileFault → List ℕ
 why_text (Unread cause) = codes ": " ++ cause_words cause
 why_text TooLong = []
 
+-- the fault of a file
+abbrev pub fault_words : FileFault → List ℕ
+fault_words fault = codes "fault " ++ fault_code fault ++ why_text fault
+
 -- the end of a file with a fault
 abbrev pub fault_text : List ℕ → FileFault → List ℕ
-fault_text head fault = head ++ codes ": fault " ++ fault_code fault ++ why_text fault ++ codes "\n"
+fault_text head fault = head ++ codes ": " ++ fault_words fault ++ codes "\n"
 
 -- when a review was asked, in the time zone of this POSIX rule
 abbrev pub asked_by : List ℕ → Asking → Asked

@@ -3,9 +3,11 @@ use Rattle.std.specs.Prelude.{◌++◌, ℕ, List, [], Option, Some, None, codes
 use Rattle.ssh_offers.specs.FirstRefusal.{AreBytes}
 use Rattle.ssh_print.specs.Strings.{json_text}
 use Rattle.ssh_print.specs.Texts.{escaped_text}
-use Rattle.ssh_review.specs.Fields.{text_field}
+use Rattle.ssh_review.specs.RecordFields.{cell_text, text_in}
+use Rattle.ssh_review.specs.declared.record_field.FieldForm.{FieldForm}
+use Rattle.ssh_review.specs.declared.record_field.FieldForm.TheVariants.{Cell, Member}
 use Rattle.ssh_review.specs.declared.end.Form.{Form}
-use Rattle.ssh_review.specs.declared.end.Form.TheVariants.{Json, Text}
+use Rattle.ssh_review.specs.declared.end.Form.TheVariants.{Json, Line, Text}
 use Rattle.ssh_review.specs.declared.file_name.FileName.{FileName}
 use Rattle.ssh_review.specs.declared.file_name.Labels.{Labels}
 
@@ -42,20 +44,27 @@ label_text (Some l) = escaped_text l.account ++ codes "@" ++ escaped_text l.host
 abbrev pub text_head : NameSeen → List ℕ
 text_head name = label_text name.labels ++ escaped_text name.path
 
-unfoldable pub both_fields : LabelsSeen → List ℕ
-both_fields l = text_field (codes "host") l.host ++ text_field (codes "account") l.account
+unfoldable pub both_fields : FieldForm → LabelsSeen → List ℕ
+both_fields form l = text_in form (codes "host") l.host ++ text_in form (codes "account") l.account
 
-abbrev pub label_fields : Option LabelsSeen → List ℕ
-label_fields None = []
-label_fields (Some l) = both_fields l
+-- an object has these fields where names say so, and a row always has their cells
+abbrev pub label_fields : FieldForm → Option LabelsSeen → List ℕ
+label_fields form (Some l) = both_fields form l
+label_fields Member None = []
+label_fields Cell None = codes "\t\t"
 
 unfoldable pub json_head : NameSeen → List ℕ
-json_head name = codes "{\"file\":" ++ json_text name.path ++ label_fields name.labels
+json_head name = codes "{\"file\":" ++ json_text name.path ++ label_fields Member name.labels
+
+-- the first cells of a row
+unfoldable pub row_head : NameSeen → List ℕ
+row_head name = cell_text name.path ++ label_fields Cell name.labels
 
 -- how each record and the end of this file begin
 abbrev pub file_head : Form → NameSeen → List ℕ
 file_head Text name = text_head name
 file_head Json name = json_head name
+file_head (Line kind) name = row_head name
 
 -- the name as the page has it, which escapes each text itself
 abbrev pub label_shown : Option LabelsSeen → List ℕ

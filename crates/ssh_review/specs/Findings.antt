@@ -1,4 +1,4 @@
--- Findings as lines of text and as JSON objects (this project's rule).
+-- Findings as lines of text, as JSON objects, and in a cell of a table (this project's rule).
 use Rattle.std.specs.Prelude.{◌++◌, ◌∷◌, [], ℕ, List, Option, Some, None, codes}
 use Rattle.std.specs.Fmt.{decimal}
 use Rattle.std.specs.List.{flat_map}
@@ -12,6 +12,8 @@ use Rattle.ssh_findings.specs.declared.host_finding.HostFinding.{HostFinding}
 use Rattle.ssh_findings.specs.declared.row.Value.{Value}
 use Rattle.ssh_findings.specs.declared.row.Value.TheVariants.{Nothing, Number, Cause}
 use Rattle.ssh_review.specs.Fields.{text_field}
+use Rattle.ssh_review.specs.declared.record_field.FieldForm.{FieldForm}
+use Rattle.ssh_review.specs.declared.record_field.FieldForm.TheVariants.{Cell, Member}
 use Rattle.ssh_findings.specs.FindingRows.{FindingRow}
 use Rattle.ssh_findings.specs.Findings.{auth_row}
 use Rattle.ssh_findings.specs.HostFindingsFindings.{host_row}
@@ -91,8 +93,32 @@ rows_list row (f ∷ others) = row_object (row f) ++ flat_map (object_after_comm
 abbrev pub rows_end : {F : Type 0} → (F → FindingRow) → List F → List ℕ
 rows_end row found = codes ",\"findings\":[" ++ rows_list row found ++ codes "]}\n"
 
-abbrev pub findings_end : List Finding → List ℕ
-findings_end found = rows_end auth_row found
+-- ---- in a cell
 
-abbrev pub host_findings_end : List HostFinding → List ℕ
-host_findings_end found = rows_end host_row found
+-- a code, and its detail
+abbrev pub row_words : FindingRow → List ℕ
+row_words r = code_text r.code ++ detail_part (row_detail r)
+
+abbrev pub words_after_semicolon : {F : Type 0} → (F → FindingRow) → F → List ℕ
+words_after_semicolon row f = codes "; " ++ row_words (row f)
+
+-- the same of each, separated by semicolons
+abbrev pub words_list : {F : Type 0} → (F → FindingRow) → List F → List ℕ
+words_list row [] = []
+words_list row (f ∷ others) = row_words (row f) ++ flat_map (words_after_semicolon row) others
+
+-- the cell of the findings, a cell without a note, and the end of the line
+abbrev pub cells_end : {F : Type 0} → (F → FindingRow) → List F → List ℕ
+cells_end row found = codes "\t" ++ words_list row found ++ codes "\t" ++ codes "\n"
+
+-- ---- the end of a record
+
+abbrev pub record_end : {F : Type 0} → FieldForm → (F → FindingRow) → List F → List ℕ
+record_end Member row found = rows_end row found
+record_end Cell row found = cells_end row found
+
+abbrev pub findings_end : FieldForm → List Finding → List ℕ
+findings_end form found = record_end form auth_row found
+
+abbrev pub host_findings_end : FieldForm → List HostFinding → List ℕ
+host_findings_end form found = record_end form host_row found

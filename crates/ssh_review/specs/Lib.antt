@@ -10,6 +10,8 @@ pub mod Memory
 pub mod Reviews
 pub mod Shown
 pub mod Fields
+pub mod RecordFields
+pub mod Tables
 pub mod Found
 pub mod Asked
 pub mod FileNames

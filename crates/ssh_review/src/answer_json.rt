@@ -16,7 +16,8 @@ use crate::fields::{
     print_of, push_array, push_field_name, push_null_field, push_number_field, push_number_or_null,
     push_text_field, push_text_or_null, push_truth, without_first,
 };
-use crate::json_record::{fingerprint_text, push_rights_field};
+use crate::json_record::{fingerprint_text, push_rights_in};
+use crate::record_field::FieldForm;
 use ssh_offers::{AuditError, Signed};
 use ssh_print::{
     Otherwise, Subject, carried_word, cause_code, fault_codes, line_codes, push_json_text,
@@ -120,7 +121,7 @@ fn push_rights(alloc: Global, out: &mut Vec<u8>, rights: &Option<Rights>) -> Res
         Some(rights) => {
             let mut carried = Vec::new(alloc);
             push_carried_elements(alloc, &mut carried, rights.carried.as_slice())?;
-            push_rights_field(out, rights)?;
+            push_rights_in(FieldForm::Member, out, rights)?;
             push_text_or_null(out, b"command", &rights.command)?;
             push_array(out, b"carry", &carried)
         }

@@ -7,12 +7,14 @@ ghost use Rattle.ssh_entries.specs.LineView.{line_seen};
 ghost use Rattle.ssh_text.specs.Text.{file_limit, lines_of, numbered};
 ghost use Rattle.ssh_findings.specs.Asking.{Asking, asking_of};
 ghost use Rattle.ssh_findings.specs.Earlier.{Held};
+ghost use Rattle.ssh_findings.specs.Facts.{facts_of};
 ghost use Rattle.ssh_findings.specs.Keeping.{RemembersEntries};
 ghost use Rattle.ssh_findings.specs.Memory.{bytes_kept, keys_kept};
 ghost use Rattle.ssh_review.specs.declared.records.RecordForm.{RecordForm as RecordFormValue};
 ghost use Rattle.ssh_review.specs.declared.show.Show.{Show as ShowValue};
-ghost use Rattle.ssh_review.specs.Lines.{counts_of, held_by_line, line_counts, line_findings, line_record};
+ghost use Rattle.ssh_review.specs.Lines.{counts_of, held_by_line, lets_in, line_counts, line_findings, line_record, shadow_line};
 ghost use Rattle.ssh_review.specs.Making.{AuthTells, HasLeft};
+ghost use Rattle.ssh_review.specs.Objects.{entry_in};
 ghost use Rattle.ssh_review.specs.Memory.{line_bytes};
 ghost use Rattle.ssh_review.specs.Ends.{total_words};
 ghost use Rattle.ssh_review.specs.Forms.{end_line, file_fault_line, total_line};
@@ -24,19 +26,55 @@ use crate::end::{
     Counts, FileFault, Form, Reviewed, Total, push_end_object, push_end_text, push_fault_object,
     push_fault_text, push_total_object, push_total_text, push_total_words,
 };
-use crate::json_record::{LineRef, push_entry_object, push_unreadable_object, row_place};
+use crate::json_record::{LineRef, push_entry_in, push_unreadable_in, row_place};
 use crate::key_review::KeyCounts;
 use crate::record::{push_entry_text, push_unreadable_text};
+use crate::record_field::FieldForm;
 use crate::records::{LineRecords, RecordForm, Records, whole_review};
+use crate::table::{push_end_row, push_fault_row, push_total_row};
 use ssh_entries::{AuthEntryView, AuthLineView, KeyBuffer, read_auth_view};
 use ssh_findings::{
-    CodeCounts, Earlier, Facts, ReviewOptions, entry_findings, held_key, may_let_in,
+    CodeCounts, Earlier, Facts, Finding, ReviewOptions, entry_findings, held_key, may_let_in,
     unreadable_findings,
 };
 use ssh_options::LineCause;
 use ssh_page::{push_entry_row, push_unreadable_row};
 use ssh_text::FILE_LIMIT;
 use std::alloc::{AllocError, Global};
+
+/// Appends the record of an entry in fields. Who decides before it, and whether it lets in, do not
+/// depend on which findings are asked for.
+fn push_entry_fields(
+    form: FieldForm,
+    alloc: Global,
+    asked: &ReviewOptions<'_>,
+    place: &LineRef<'_>,
+    entry: &AuthEntryView<'_>,
+    earlier: &Earlier,
+    facts: &Facts,
+    found: &[Finding],
+    out: &mut Vec<u8>,
+) -> Result<(), AllocError>
+    requires { facts.now ≡ facts_of (asking_of asked.now).zone entry.now }
+    ensures { OnOk result ((held : List Held) → RemembersEntries earlier.now held
+        → out.new.items ≡ out.old.items ++ entry_in form place.entry.now.head.now place.entry.now.number
+        facts.now (entry.now).options (shadow_line (asking_of asked.entry.now) held entry.now)
+        (lets_in (asking_of asked.entry.now) held entry.now) found.now) }
+{
+    let shadow = earlier.shadow_line(entry.blob(), facts);
+    let lets_in = shadow.is_none() && may_let_in(asked, facts);
+    push_entry_in(
+        form,
+        alloc,
+        out,
+        place,
+        facts,
+        entry.options(),
+        shadow,
+        lets_in,
+        found,
+    )
+}
 
 /// Appends the record of an entry, and stores what later lines need of the entry.
 pub(crate) fn push_entry_line(
@@ -66,18 +104,15 @@ pub(crate) fn push_entry_line(
     match form {
         RecordForm::AsLines(Form::Text) => push_entry_text(alloc, out, place, &facts, &found)?,
         RecordForm::AsLines(Form::Json) => {
-            // These fields do not depend on which findings are asked for.
-            let shadow = earlier.shadow_line(entry.blob(), &facts);
-            let lets_in = shadow.is_none() && may_let_in(asked, &facts);
-            push_entry_object(
-                alloc,
-                out,
-                place,
-                &facts,
-                entry.options(),
-                shadow,
-                lets_in,
-                &found,
+            let form = FieldForm::Member;
+            push_entry_fields(
+                form, alloc, asked, place, entry, earlier, &facts, &found, out,
+            )?;
+        }
+        RecordForm::AsLines(Form::Line(_)) => {
+            let form = FieldForm::Cell;
+            push_entry_fields(
+                form, alloc, asked, place, entry, earlier, &facts, &found, out,
             )?;
         }
         RecordForm::AsRow(file) => {
@@ -116,7 +151,10 @@ pub(crate) fn push_unreadable_line(
             push_unreadable_text(alloc, out, place, held, &found)?;
         }
         RecordForm::AsLines(Form::Json) => {
-            push_unreadable_object(alloc, out, place, held, &found)?;
+            push_unreadable_in(FieldForm::Member, alloc, out, place, held, &found)?;
+        }
+        RecordForm::AsLines(Form::Line(_)) => {
+            push_unreadable_in(FieldForm::Cell, alloc, out, place, held, &found)?;
         }
         RecordForm::AsRow(file) => {
             push_unreadable_row(alloc, out, row_place(file, place.number), held, &found)?;
@@ -219,6 +257,7 @@ pub fn push_end(
     match form {
         Form::Text => push_end_text(out, head, counts, digest),
         Form::Json => push_end_object(alloc, out, head, counts, digest),
+        Form::Line(kind) => push_end_row(out, kind, head, counts, digest),
     }
 }
 
@@ -234,6 +273,7 @@ fn push_fault(
     match form {
         Form::Text => push_fault_text(out, head, fault),
         Form::Json => push_fault_object(out, head, fault),
+        Form::Line(kind) => push_fault_row(out, kind, head, fault),
     }
 }
 
@@ -297,6 +337,7 @@ pub fn total_line(
     match form {
         Form::Text => push_total_text(alloc, &mut line, zone, asked, total)?,
         Form::Json => push_total_object(alloc, &mut line, kind, zone, asked, total)?,
+        Form::Line(files) => push_total_row(alloc, &mut line, files, zone, asked, total)?,
     }
     Ok(line)
 }

@@ -5,7 +5,7 @@ ghost use Rattle.ssh_review.specs.Counting.{no_counts, plus_within};
 ghost use Rattle.std.specs.List.{flat_map};
 ghost use Rattle.ssh_findings.specs.Asking.{asking_of};
 ghost use Rattle.ssh_review.specs.Asked.{asked_of};
-ghost use Rattle.ssh_review.specs.Ends.{asked_by, count_text, counts_text, end_text, cause_words, fault_code, fault_text, total_text, total_words, why_text};
+ghost use Rattle.ssh_review.specs.Ends.{asked_by, count_text, counts_text, end_text, end_words, cause_words, fault_code, fault_text, fault_words, total_text, total_words, why_text};
 ghost use Rattle.ssh_review.specs.EndObjects.{code_element, counts_fields, end_head, end_object, fault_object, review_fields, total_counts, total_object, why_field};
 
 use crate::asked::{AskedAt, push_asked_fields, push_asked_words, push_total_head};
@@ -14,6 +14,7 @@ use crate::fields::{push_array, push_null_field, push_number_field, push_text_fi
 use crate::found::{push_found_lines, push_found_object};
 use ssh_files::UnreadCause;
 use ssh_findings::{Code, CodeCounts, ReviewOptions};
+use ssh_page::FileKind;
 use ssh_print::{push_hex, push_json_text, push_number};
 use std::alloc::{AllocError, Global};
 
@@ -24,6 +25,9 @@ pub enum Form {
     Text,
     /// JSON lines for programs: one object on each line.
     Json,
+    /// A table for `grep`, `cut` and spreadsheets, of files of this format: one record on each line,
+    /// in cells.
+    Line(FileKind),
 }
 
 /// The counts of a file's lines.
@@ -120,6 +124,20 @@ fn push_counts(out: &mut Vec<u8>, counts: Counts) -> Result<(), AllocError>
     Ok(())
 }
 
+/// Appends the counts of a file that was reviewed, and the SHA-256 of its bytes.
+pub(crate) fn push_end_words(
+    out: &mut Vec<u8>,
+    counts: Counts,
+    digest: &[u8],
+) -> Result<(), AllocError>
+    ensures { OnOk result (out.new.items ≡ out.old.items ++ end_words counts digest.now) }
+{
+    push_counts(out, counts)?;
+    out.extend_from_slice(b", sha256 ")?;
+    push_hex(out, digest)?;
+    Ok(())
+}
+
 /// Appends the end of a file that was reviewed, as text.
 pub(crate) fn push_end_text(
     out: &mut Vec<u8>,
@@ -132,9 +150,7 @@ pub(crate) fn push_end_text(
 {
     out.extend_from_slice(head)?;
     out.extend_from_slice(b": ")?;
-    push_counts(out, counts)?;
-    out.extend_from_slice(b", sha256 ")?;
-    push_hex(out, digest)?;
+    push_end_words(out, counts, digest)?;
     out.push(b'\n')?;
     Ok(())
 }
@@ -172,6 +188,16 @@ fn push_why_text(out: &mut Vec<u8>, fault: FileFault) -> Result<(), AllocError>
     Ok(())
 }
 
+/// Appends the fault of a file in words.
+pub(crate) fn push_fault_words(out: &mut Vec<u8>, fault: FileFault) -> Result<(), AllocError>
+    ensures { OnOk result (out.new.items ≡ out.old.items ++ fault_words fault) }
+{
+    out.extend_from_slice(b"fault ")?;
+    out.extend_from_slice(fault_code(fault))?;
+    push_why_text(out, fault)?;
+    Ok(())
+}
+
 /// Appends the end of a file with a fault, as text.
 pub(crate) fn push_fault_text(
     out: &mut Vec<u8>,
@@ -181,9 +207,8 @@ pub(crate) fn push_fault_text(
     ensures { OnOk result (out.new.items ≡ out.old.items ++ fault_text head.now fault) }
 {
     out.extend_from_slice(head)?;
-    out.extend_from_slice(b": fault ")?;
-    out.extend_from_slice(fault_code(fault))?;
-    push_why_text(out, fault)?;
+    out.extend_from_slice(b": ")?;
+    push_fault_words(out, fault)?;
     out.push(b'\n')?;
     Ok(())
 }

@@ -102,16 +102,6 @@ pub(crate) fn push_number_or_null(
     }
 }
 
-/// Appends the number of bits of an RSA key; `null` for other keys.
-pub(crate) fn push_bits_field(out: &mut Vec<u8>, bits: Option<u32>) -> Result<(), AllocError>
-    ensures { OnOk result (out.new.items ≡ out.old.items ++ number_or_null (codes "bits") bits) }
-{
-    match bits {
-        Some(bits) => push_number_field(out, b"bits", bits as u64),
-        None => push_null_field(out, b"bits"),
-    }
-}
-
 /// The text without its first byte.
 pub(crate) fn without_first(text: &[u8]) -> &[u8]
     ensures { result.now ≡ drop 1 text.now }

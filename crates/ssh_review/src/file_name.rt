@@ -1,10 +1,10 @@
 //! The name of a file, and how each of its records begins with it.
 
 ghost use Rattle.std.specs.Prelude.{◌≡◌, ◌++◌, IfOk, None, OnOk, option_map};
-ghost use Rattle.ssh_review.specs.FileNames.{both_fields, file_head, json_head, label_fields, label_shown, label_text, labels_seen, name_seen, shown_name, text_head};
+ghost use Rattle.ssh_review.specs.FileNames.{both_fields, file_head, json_head, label_fields, label_shown, label_text, labels_seen, name_seen, row_head, shown_name, text_head};
 
 use crate::end::Form;
-use crate::fields::push_text_field;
+use crate::record_field::{FieldForm, push_cell_text, push_text_in};
 use ssh_print::{push_escaped, push_json_text};
 use std::alloc::{AllocError, Global};
 
@@ -57,21 +57,31 @@ fn push_text_head(out: &mut Vec<u8>, name: FileName<'_>) -> Result<(), AllocErro
 
 /// Appends the fields of host and account.
 #[tactic(auto, unfolding(crate::specs::FileNames::both_fields))]
-fn push_both_fields(out: &mut Vec<u8>, labels: Labels<'_>) -> Result<(), AllocError>
-    ensures { OnOk result (out.new.items ≡ out.old.items ++ both_fields (labels_seen labels.entry)) }
+fn push_both_fields(
+    form: FieldForm,
+    out: &mut Vec<u8>,
+    labels: Labels<'_>,
+) -> Result<(), AllocError>
+    ensures { OnOk result (out.new.items ≡ out.old.items ++ both_fields form (labels_seen labels.entry)) }
 {
-    push_text_field(out, b"host", labels.host.as_bytes())?;
-    push_text_field(out, b"account", labels.account.as_bytes())?;
+    push_text_in(form, out, b"host", labels.host.as_bytes())?;
+    push_text_in(form, out, b"account", labels.account.as_bytes())?;
     Ok(())
 }
 
-/// Appends the fields of host and account, where names have them.
-fn push_label_fields(out: &mut Vec<u8>, labels: Option<Labels<'_>>) -> Result<(), AllocError>
-    ensures { OnOk result (out.new.items ≡ out.old.items ++ label_fields (option_map labels_seen labels.entry)) }
+/// Appends the fields of host and account, where names have them; a row has their cells anyway.
+fn push_label_fields(
+    form: FieldForm,
+    out: &mut Vec<u8>,
+    labels: Option<Labels<'_>>,
+) -> Result<(), AllocError>
+    ensures { OnOk result (out.new.items
+        ≡ out.old.items ++ label_fields form (option_map labels_seen labels.entry)) }
 {
-    match labels {
-        Some(labels) => push_both_fields(out, labels),
-        None => Ok(()),
+    match (labels, form) {
+        (Some(labels), _) => push_both_fields(form, out, labels),
+        (None, FieldForm::Member) => Ok(()),
+        (None, FieldForm::Cell) => out.extend_from_slice(b"\t\t"),
     }
 }
 
@@ -82,7 +92,17 @@ fn push_json_head(out: &mut Vec<u8>, name: FileName<'_>) -> Result<(), AllocErro
 {
     out.extend_from_slice(b"{\"file\":")?;
     push_json_text(out, name.path.as_bytes())?;
-    push_label_fields(out, name.labels)?;
+    push_label_fields(FieldForm::Member, out, name.labels)?;
+    Ok(())
+}
+
+/// Appends the front of a record as a row of a table.
+#[tactic(auto, unfolding(crate::specs::FileNames::row_head))]
+fn push_row_head(out: &mut Vec<u8>, name: FileName<'_>) -> Result<(), AllocError>
+    ensures { OnOk result (out.new.items ≡ out.old.items ++ row_head (name_seen name.entry)) }
+{
+    push_cell_text(out, name.path.as_bytes())?;
+    push_label_fields(FieldForm::Cell, out, name.labels)?;
     Ok(())
 }
 
@@ -94,6 +114,7 @@ pub fn file_head(alloc: Global, form: Form, name: FileName<'_>) -> Result<Vec<u8
     match form {
         Form::Text => push_text_head(&mut head, name)?,
         Form::Json => push_json_head(&mut head, name)?,
+        Form::Line(_) => push_row_head(&mut head, name)?,
     }
     Ok(head)
 }

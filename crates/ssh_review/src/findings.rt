@@ -1,11 +1,13 @@
-//! What is printed of a finding: its code, its detail and its sentence, as a line or as an object.
+//! What is printed of a finding: its code, its detail and its sentence, as a line, as an object or
+//! in a cell.
 
 ghost use Rattle.std.specs.Prelude.{◌≡◌, IfOk, ◌++◌, OnOk};
 ghost use Rattle.std.specs.List.{flat_map};
-ghost use Rattle.ssh_review.specs.Findings.{cause_detail, cause_text, code_object, detail_part, finding_head, object_after_comma, row_detail, row_line, row_object, row_sentence, rows_end, rows_list, value_text};
+ghost use Rattle.ssh_review.specs.Findings.{cause_detail, cause_text, cells_end, code_object, detail_part, finding_head, object_after_comma, record_end, row_detail, row_line, row_object, row_sentence, row_words, rows_end, rows_list, value_text, words_after_semicolon, words_list};
 ghost use Rattle.ssh_findings.specs.FindingRows.{row_seen};
 
 use crate::fields::push_text_field;
+use crate::record_field::FieldForm;
 use ssh_findings::{Printed, Row, Value};
 use ssh_options::LineCause;
 use ssh_print::{line_code, line_codes, push_json_text, push_number, row_of};
@@ -156,8 +158,8 @@ fn push_list<F: Printed>(alloc: Global, out: &mut Vec<u8>, found: &[F]) -> Resul
     Ok(())
 }
 
-/// Appends the last field of a record, its findings, and the end of its line.
-pub(crate) fn push_findings_end<F: Printed>(
+/// Appends the last field of an object, its findings, and the end of its line.
+fn push_objects_end<F: Printed>(
     alloc: Global,
     out: &mut Vec<u8>,
     found: &[F],
@@ -168,4 +170,75 @@ pub(crate) fn push_findings_end<F: Printed>(
     push_list(alloc, out, found)?;
     out.extend_from_slice(b"]}\n")?;
     Ok(())
+}
+
+/// Appends the words of a finding: its code and detail.
+fn push_words(alloc: Global, out: &mut Vec<u8>, row: Row) -> Result<(), AllocError>
+    ensures { OnOk result (out.new.items ≡ out.old.items ++ row_words (row_seen row)) }
+{
+    let said = detail(alloc, row)?;
+    out.extend_from_slice(row.code.text())?;
+    push_detail(out, &said)?;
+    Ok(())
+}
+
+/// Appends the words of findings, each after a semicolon.
+fn push_other_words<F: Printed>(
+    alloc: Global,
+    out: &mut Vec<u8>,
+    found: &[F],
+) -> Result<(), AllocError>
+    ensures { OnOk result
+        (out.new.items ≡ out.old.items ++ flat_map (words_after_semicolon F.printed) found.now) }
+{
+    for finding in found {
+        out.extend_from_slice(b"; ")?;
+        push_words(alloc, out, finding.row())?;
+    }
+    Ok(())
+}
+
+/// Appends the words of findings, separated by semicolons.
+fn push_words_list<F: Printed>(
+    alloc: Global,
+    out: &mut Vec<u8>,
+    found: &[F],
+) -> Result<(), AllocError>
+    ensures { OnOk result (out.new.items ≡ out.old.items ++ words_list F.printed found.now) }
+{
+    if let [first, others @ ..] = found {
+        push_words(alloc, out, first.row())?;
+        push_other_words(alloc, out, others)?;
+    }
+    Ok(())
+}
+
+/// Appends the cell of a row's findings, that of a note, which is empty, and the end of the line.
+fn push_cells_end<F: Printed>(
+    alloc: Global,
+    out: &mut Vec<u8>,
+    found: &[F],
+) -> Result<(), AllocError>
+    ensures { OnOk result (out.new.items ≡ out.old.items ++ cells_end F.printed found.now) }
+{
+    out.push(b'\t')?;
+    push_words_list(alloc, out, found)?;
+    out.push(b'\t')?;
+    out.push(b'\n')?;
+    Ok(())
+}
+
+/// Appends the last fields of a record, its findings first, and the end of its line.
+pub(crate) fn push_record_end<F: Printed>(
+    form: FieldForm,
+    alloc: Global,
+    out: &mut Vec<u8>,
+    found: &[F],
+) -> Result<(), AllocError>
+    ensures { OnOk result (out.new.items ≡ out.old.items ++ record_end form F.printed found.now) }
+{
+    match form {
+        FieldForm::Member => push_objects_end(alloc, out, found),
+        FieldForm::Cell => push_cells_end(alloc, out, found),
+    }
 }

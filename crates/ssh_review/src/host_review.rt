@@ -27,10 +27,11 @@ ghost use Rattle.ssh_review.specs.LineReports.{host_line_reports_of, of_all};
 use crate::auth_review::review_fault;
 use crate::end::{Counts, FileFault, Form, Reviewed};
 use crate::fields::print_of;
-use crate::host_json_record::{push_bare_object, push_entry_object, push_revoked_object};
+use crate::host_json_record::{push_bare_in, push_entry_in, push_revoked_in};
 use crate::host_record::{push_bare_text, push_entry_text, push_revoked_text};
 use crate::json_record::{LineRef, row_place};
 use crate::key_review::KeyCounts;
+use crate::record_field::FieldForm;
 use crate::records::{LineRecords, RecordForm, Records, whole_review};
 use ssh_entries::{KeyBuffer, KnownEntryView, KnownLineView, read_known_view};
 use ssh_findings::{
@@ -71,7 +72,12 @@ pub(crate) fn push_entry_line(
     let found = host_entry_findings(alloc, asked, earlier, entry.blob(), &facts)?;
     match form {
         RecordForm::AsLines(Form::Text) => push_entry_text(alloc, out, place, &facts, &found)?,
-        RecordForm::AsLines(Form::Json) => push_entry_object(alloc, out, place, &facts, &found)?,
+        RecordForm::AsLines(Form::Json) => {
+            push_entry_in(FieldForm::Member, alloc, out, place, &facts, &found)?;
+        }
+        RecordForm::AsLines(Form::Line(_)) => {
+            push_entry_in(FieldForm::Cell, alloc, out, place, &facts, &found)?;
+        }
         RecordForm::AsRow(file) => {
             push_host_entry_row(alloc, out, row_place(file, place.number), &facts, &found)?;
         }
@@ -133,7 +139,10 @@ pub(crate) fn push_revoked_line(
             push_revoked_text(alloc, out, place, bytes, &facts, &found)?;
         }
         RecordForm::AsLines(Form::Json) => {
-            push_revoked_object(alloc, out, place, bytes, &facts, &found)?;
+            push_revoked_in(FieldForm::Member, alloc, out, place, bytes, &facts, &found)?;
+        }
+        RecordForm::AsLines(Form::Line(_)) => {
+            push_revoked_in(FieldForm::Cell, alloc, out, place, bytes, &facts, &found)?;
         }
         RecordForm::AsRow(file) => {
             push_revoked_row_of(
@@ -173,7 +182,12 @@ fn push_bare_line(
 {
     match form {
         RecordForm::AsLines(Form::Text) => push_bare_text(alloc, out, place, is, held, found)?,
-        RecordForm::AsLines(Form::Json) => push_bare_object(alloc, out, place, is, held, found)?,
+        RecordForm::AsLines(Form::Json) => {
+            push_bare_in(FieldForm::Member, alloc, out, place, is, held, found)?;
+        }
+        RecordForm::AsLines(Form::Line(_)) => {
+            push_bare_in(FieldForm::Cell, alloc, out, place, is, held, found)?;
+        }
         RecordForm::AsRow(file) => {
             push_bare_row(alloc, out, row_place(file, place.number), is, held, found)?;
         }

@@ -37,6 +37,9 @@
 //! the same bytes, with a backslash before each quote and each backslash. So both formats write a
 //! value in the same way.
 //!
+//! As a table a record is a line of cells, with the fields of the JSON object in the same order. Its
+//! header, `first_lines`, is written once, before the first file.
+//!
 //! The review of a `known_hosts` file has a record for each entry, each revocation and each line
 //! that cannot be read: which keys are trusted for which names, and which are revoked. Its end and
 //! its formats are the same. A caller that reviews a file and returns whether something was found:
@@ -86,9 +89,11 @@ mod page_file;
 mod page_laws;
 mod readable;
 mod record;
+mod record_field;
 mod records;
 mod short_text;
 mod show;
+mod table;
 
 pub use answer_json::{answer_object, answer_total};
 pub use asked::{AskedAt, asked_line};
@@ -104,3 +109,4 @@ pub use page_file::{push_page_fault, push_page_file};
 pub use readable::{left_out, readable_auth};
 pub use records::{ForKey, LineRecords, RecordForm, Records};
 pub use show::Show;
+pub use table::first_lines;

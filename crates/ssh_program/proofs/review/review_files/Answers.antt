@@ -1,4 +1,4 @@
-use Rattle.ssh_program.proofs.Imports.{map, refl, asking_of, no_lines, telling_review, with_file}
+use Rattle.ssh_program.proofs.Imports.{refl, asking_of, lines_before, telling_review, with_file}
 use Rattle.ssh_program.specs.Namings.{names_seen}
 use Rattle.ssh_review.specs.Forms.{total_line}
 use Rattle.ssh_review.specs.declared.end.Total.{Total}
@@ -10,7 +10,7 @@ use Rattle.ssh_program.proofs.review.review_files.Goals as goal
 pub returns-in-Ok : goal.returns-in-Ok
 returns-in-Ok g c =
     let asking = asking_of c.args.asked.now in
-    all_written with_file (telling_review c.args.kind c.args.show c.args.form asking) no_lines (λ reported. reported.text) (λ r. r.text) (λ reported. reported.total) (review_response c.args.kind c.args.failing.now c.args.form c.args.rule.now asking)
+    all_written with_file (telling_review c.args.kind c.args.show c.args.form asking) (lines_before c.args.form) (λ reported. reported.text) (λ r. r.text) (λ reported. reported.total) (review_response c.args.kind c.args.failing.now c.args.form c.args.rule.now asking)
     (λ (total : Total). record { status = total_status c.args.failing.now total; text = total_line c.args.form (kind_name c.args.kind) c.args.rule.now asking total })
     (names_seen c.args.names) (g.F.Files.source_state c.args.files.now) (g.F.Files.source_state c.tell_files.new.files)
     (g.W.Sink.account c.args.writer.now) (g.W.Sink.account c.tell_files.new.writer) (g.W.Sink.account c.put_total.new.writer) c.in-Ok.total c.put_total.result
@@ -18,14 +18,14 @@ returns-in-Ok g c =
 
 pub returns-in-Err-Memory : goal.returns-in-Err-Memory
 returns-in-Err-Memory g c =
-    stopped_by_memory with_file (telling_review c.args.kind c.args.show c.args.form (asking_of c.args.asked.now)) no_lines (λ reported. reported.text) (λ r. r.text) (λ reported. reported.total)
+    stopped_by_memory with_file (telling_review c.args.kind c.args.show c.args.form (asking_of c.args.asked.now)) (lines_before c.args.form) (λ reported. reported.text) (λ r. r.text) (λ reported. reported.total)
     (review_response c.args.kind c.args.failing.now c.args.form c.args.rule.now (asking_of c.args.asked.now)) (names_seen c.args.names)
     (g.F.Files.source_state c.args.files.now) (g.F.Files.source_state c.tell_files.new.files)
     (g.W.Sink.account c.args.writer.now) (g.W.Sink.account c.tell_files.new.writer) (g.W.Sink.account c.put_no_memory.new.writer) c.put_no_memory.result (rw c.in-Err-Memory.field-0-is at c.in-Err-Memory.ensures.reported) c.put_no_memory.ensures
 
 pub returns-in-Err-Write : goal.returns-in-Err-Write
 returns-in-Err-Write g c =
-    stopped_by_write with_file (telling_review c.args.kind c.args.show c.args.form (asking_of c.args.asked.now)) no_lines (λ reported. reported.text) (λ r. r.text) (λ reported. reported.total)
+    stopped_by_write with_file (telling_review c.args.kind c.args.show c.args.form (asking_of c.args.asked.now)) (lines_before c.args.form) (λ reported. reported.text) (λ r. r.text) (λ reported. reported.total)
     (review_response c.args.kind c.args.failing.now c.args.form c.args.rule.now (asking_of c.args.asked.now)) (names_seen c.args.names)
     (g.F.Files.source_state c.args.files.now) (g.F.Files.source_state c.tell_files.new.files)
     (g.W.Sink.account c.args.writer.now) (g.W.Sink.account c.tell_files.new.writer) (rw c.in-Err-Write.field-0-is at c.in-Err-Write.ensures.reported)

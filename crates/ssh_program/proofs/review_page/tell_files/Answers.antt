@@ -1,4 +1,4 @@
-use Rattle.ssh_program.proofs.Imports.{◌∙◌, ◌∷◌, sym, ◌+◌, [], drop, map, rules, ap, refl, asking_of, at_drop_more, drop_all}
+use Rattle.ssh_program.proofs.Imports.{◌∙◌, ◌∷◌, sym, ◌+◌, drop, map, rules, ap, asking_of, at_drop_more, drop_all}
 use Rattle.ssh_review.specs.FileNames.{NameSeen}
 use Rattle.ssh_program.specs.Namings.{named, names_seen}
 use Rattle.ssh_program.proofs.PageLemmas.{reports-first, reports-last, reports-next}
@@ -15,9 +15,9 @@ loop-word-preserved g c =
     (g.F.Files.source_state c.args.files.now) (g.F.Files.source_state c.loop-word.files) (g.F.Files.source_state c.tell_file.new.files)
     (record { sections = c.loop-word.sections.items; register = c.loop-word.register.items; total = c.loop-word.total })
     (record { sections = c.tell_file.new.sections.items; register = c.tell_file.new.register.items; total = c.with_counted-total.result })
-    c.in_ok-reported.reported c.page_kind.result (at_drop_more (map (λ word. named c.args.names.naming word.now)) c.args.names.words.now c.loop-word.word-index _ c.loop-word-test.true
-        ∙ ap (λ (n : NameSeen). n ∷ map (λ word. named c.args.names.naming word.now) (drop (c.loop-word.word-index + 1) c.args.names.words.now)) (sym c.name_of-name.ensures))
-    c.loop-word.invariant c.page_kind.ensures c.in_ok-reported.ensures c.with_counted-total.ensures
+    c.in_ok-reported.reported c.file_kind.result (at_drop_more (map (λ word. named c.args.names.naming word.now)) c.args.names.words.now c.loop-word.word-index _ c.loop-word-test.true
+    ∙ ap (λ (n : NameSeen). n ∷ map (λ word. named c.args.names.naming word.now) (drop (c.loop-word.word-index + 1) c.args.names.words.now)) (sym c.name_of-name.ensures))
+    c.loop-word.invariant c.file_kind.ensures c.in_ok-reported.ensures c.with_counted-total.ensures
 
 pub returns : goal.returns
 returns g c =

@@ -1,4 +1,4 @@
-use Rattle.ssh_review.proofs.Imports.{[], ◌∷◌, ◌∙◌, ◌++◌, append-nil, sym, ap}
+use Rattle.ssh_review.proofs.Imports.{◌∙◌, ◌++◌, append-nil, sym, ap}
 use Rattle.ssh_findings.specs.Codes.{all_codes}
 use Rattle.ssh_findings.specs.declared.urgency.Urgency.TheVariants.{Today, Soon, TidyUp, Policy}
 use Rattle.ssh_review.specs.Found.{found_lines, urgent_lines}
