@@ -97,7 +97,7 @@ def fifo_rows(path, room, tally):
         (readable("fifo"), "fault A7\n"),
         (hash_names("fifo", "salts"), "fault A7\n"),
         (hash_names("hosts", "fifo"), "fault file fifo\n"),
-        (review("fifo"), f"fifo: fault A7\ntotal: 1 files, 1 faults, 0 lines, 0 key lines, 0 unreadable, 0 findings, {asked_at()}\n"),
+        (review("fifo"), f"fifo: fault A7\ntotal: 1 files, 1 faults, 0 lines, 0 key lines, 0 distinct keys, 0 unreadable, 0 findings, {asked_at()}\n"),
         *((show(kind, "fifo"), "fault file fifo\n") for kind in ("key", "cert", "private", "sshsig")),
     ):
         writer = fed(room / "fifo")

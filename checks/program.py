@@ -456,7 +456,7 @@ def input_rows(program, tally):
         (["admits", "--key", "keys", "--user", "ann", "--address", "192.0.2.1", "--now", "150", "-", "-"], 2 * "-: fault A9\n" + asked_at() + "\n"),
         (["trusts", "--key", "keys", "--host", "h", "--now", "150", "-", "-"], 2 * "-: fault A9\n" + asked_at(zone=None) + "\n"),
         (["trusts", "--key", "-", "--host", "h", "--now", "150", "-"], "fault file -\n"),
-        (review("-", "-"), 2 * "-: fault A9: a folder\n" + f"total: 2 files, 2 faults, 0 lines, 0 key lines, 0 unreadable, 0 findings, {asked_at()}\n"),
+        (review("-", "-"), 2 * "-: fault A9: a folder\n" + f"total: 2 files, 2 faults, 0 lines, 0 key lines, 0 distinct keys, 0 unreadable, 0 findings, {asked_at()}\n"),
     ):
         folder = os.open(program.room, os.O_RDONLY)
         tally.check(f"a folder as input: {asked[:1]}", program.run(asked, folder), (2, wanted.encode(), hint_of(wanted)))
@@ -539,7 +539,7 @@ def picked_rows(program, tally, count=100_000):
     without an end, 2,000 of them took fifty times as long."""
     meter = program.room / "meter"
     subprocess.run(["gcc", "-O2", "-static", "-o", meter, HERE.parent / "bench" / "meter.c"], check=True)
-    total = f"total: 1 files, 0 faults, {count} lines, {count} key lines, 0 unreadable, 0 findings, {asked_at()}\n".encode()
+    total = f"total: 1 files, 0 faults, {count} lines, {count} key lines, more than 65536 distinct keys, 0 unreadable, 0 findings, {asked_at()}\n".encode()
     for kind, front in (("auth", ""), ("known", "h ")):
         times = []
         for end in (b"", MULTIPLIER.to_bytes(8, "little")):

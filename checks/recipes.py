@@ -212,7 +212,8 @@ def machine_review(room, marks):
         mark = hashlib.sha256(pathlib.Path(file).read_bytes()).hexdigest()
         text += f"{file}:1: key ssh-ed25519 {marks[key]} {TOLD[key]}\n    rights {EVERY}\n"
         text += f"{file}: 1 lines, 1 key lines, 0 unreadable, 0 findings, sha256 {mark}\n"
-    return text + f"total: {len(files)} files, 0 faults, {len(files)} lines, {len(files)} key lines, 0 unreadable, 0 findings, {asked_at(SECOND, machine_zone())}\n"
+    keys = {marks[MACHINE[os.path.relpath(file, room)]] for file in files}
+    return text + f"total: {len(files)} files, 0 faults, {len(files)} lines, {len(files)} key lines, {len(keys)} distinct keys, 0 unreadable, 0 findings, {asked_at(SECOND, machine_zone())}\n"
 
 
 def table(rows):

@@ -422,7 +422,9 @@ def put_register_row(page, file, end):
 
 
 def total_line(total):
-    return f"total: {total['files']} files, {total['faults']} faults, {counts(total)}, asked at {total['now']} {date(total['now'])}, zone {total['zone']}"
+    distinct = "more than 65536" if total["distinct_keys"] is None else total["distinct_keys"]
+    counted = counts(total).replace(" key lines, ", f" key lines, {distinct} distinct keys, ")
+    return f"total: {total['files']} files, {total['faults']} faults, {counted}, asked at {total['now']} {date(total['now'])}, zone {total['zone']}"
 
 
 # ---- the header, and what has to be mended

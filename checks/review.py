@@ -41,7 +41,7 @@ KNOWN_FIELDS = ["file", "line", "what", "type", "bits", "key", "comment", "names
 # The columns of a table: the fields with host and account, and a note.
 COLUMNS = {kind: ["file", "host", "account", *fields[1:], "note"] for kind, fields in (("auth", AUTH_FIELDS), ("known", KNOWN_FIELDS))}
 END_FIELDS = ["file", "what", "lines", "key_lines", "unreadable", "findings", "sha256", "fault", "why"]
-TOTAL_FIELDS = ["what", "format", "program", "kind", "rsa_minimum", "told", "now", "at", "zone", "files", "faults", "faults_by_code", "lines", "key_lines", "unreadable", "findings", "findings_by_code"]
+TOTAL_FIELDS = ["what", "format", "program", "kind", "rsa_minimum", "told", "now", "at", "zone", "files", "faults", "faults_by_code", "lines", "key_lines", "distinct_keys", "unreadable", "findings", "findings_by_code"]
 # The first moment of 2026 in UTC, which an expiry time of that day names.
 NEW_YEAR = 1_767_225_600
 FORWARDS = "    F9: its command is forced, but it may still forward: add restrict"
@@ -111,7 +111,7 @@ F8: 1, OpenSSH reads the line otherwise: principals= without cert-authority, emp
 F5: 1, an RSA key of B bits is too short: they are fewer than --rsa-minimum
 F9: 1, the line's command is forced, but it may still forward: add restrict
 F6: 1, the line has expired
-total: 2 files, 1 faults, 10 lines, 8 key lines, 1 unreadable, 6 findings, asked at 1770000000 2026-02-02T02:40:00Z, zone UTC0
+total: 2 files, 1 faults, 10 lines, 8 key lines, 7 distinct keys, 1 unreadable, 6 findings, asked at 1770000000 2026-02-02T02:40:00Z, zone UTC0
 """
 
 WORKED_JSON = r"""{"file":"web1/ann","line":2,"what":"key","type":"ssh-ed25519","bits":null,"key":"SHA256:gXMk5B5PxTYWe+Q7kQzHGRTNDb0nrzC3BLT7EPMvKSg","comment":"laptop@example","options":"","rights":"port agent x11 pty rc","command":null,"source":null,"principals":null,"expires":null,"shadowed_by":null,"lets_in":true,"findings":[]}
@@ -125,7 +125,7 @@ WORKED_JSON = r"""{"file":"web1/ann","line":2,"what":"key","type":"ssh-ed25519",
 {"file":"web1/ann","line":10,"what":"key","type":"ssh-rsa","bits":2048,"key":"SHA256:Bfvk8D9yagody1EbQdzAz5byw0A51qzcCWURIjCLnN4","comment":"","options":"verify-required","rights":"port agent x11 pty rc","command":null,"source":null,"principals":null,"expires":null,"shadowed_by":null,"lets_in":true,"findings":[{"code":"F8","detail":"verify-required"}]}
 {"file":"web1/ann","what":"end","lines":10,"key_lines":8,"unreadable":1,"findings":6,"sha256":"a3b51c142bcda45a43c1dd1d736f45ea9554b013929818c32d1e1950dbd33041","fault":null,"why":null}
 {"file":"web1/none","what":"end","lines":0,"key_lines":0,"unreadable":0,"findings":0,"sha256":null,"fault":"A9","why":"not found"}
-{"what":"total","format":2,"program":"ssh_audit 1.0.0","kind":"auth","rsa_minimum":2048,"told":["F1","F2","F3","F4","F5","F6","F7","F8","F9","F10","F11","F12","F13","F14","F22"],"now":1770000000,"at":"2026-02-02T02:40:00Z","zone":"UTC0","files":2,"faults":1,"faults_by_code":{"A9":1},"lines":10,"key_lines":8,"unreadable":1,"findings":6,"findings_by_code":{"F1":1,"F4":1,"F5":1,"F6":1,"F8":1,"F9":1}}
+{"what":"total","format":2,"program":"ssh_audit 1.0.0","kind":"auth","rsa_minimum":2048,"told":["F1","F2","F3","F4","F5","F6","F7","F8","F9","F10","F11","F12","F13","F14","F22"],"now":1770000000,"at":"2026-02-02T02:40:00Z","zone":"UTC0","files":2,"faults":1,"faults_by_code":{"A9":1},"lines":10,"key_lines":8,"distinct_keys":7,"unreadable":1,"findings":6,"findings_by_code":{"F1":1,"F4":1,"F5":1,"F6":1,"F8":1,"F9":1}}
 """
 
 # Bytes that are no text: UTF-8, an escape sequence that clears a screen, a byte ff and a CR.
@@ -136,11 +136,11 @@ ODD_TEXT = r"""odd:1: key ssh-ed25519 SHA256:gXMk5B5PxTYWe+Q7kQzHGRTNDb0nrzC3BLT
     F9: its command is forced, but it may still forward: add restrict
 odd: 1 lines, 1 key lines, 0 unreadable, 1 findings, sha256 886bbc8ffa56bed5a1030ccd048549abedd0932d9d3863db4d887f07638f2910
 F9: 1, the line's command is forced, but it may still forward: add restrict
-total: 1 files, 0 faults, 1 lines, 1 key lines, 0 unreadable, 1 findings, asked at 1770000000 2026-02-02T02:40:00Z, zone UTC0
+total: 1 files, 0 faults, 1 lines, 1 key lines, 1 distinct keys, 0 unreadable, 1 findings, asked at 1770000000 2026-02-02T02:40:00Z, zone UTC0
 """
 ODD_JSON = r"""{"file":"odd","line":1,"what":"key","type":"ssh-ed25519","bits":null,"key":"SHA256:gXMk5B5PxTYWe+Q7kQzHGRTNDb0nrzC3BLT7EPMvKSg","comment":"m\\xc3\\xbcller\\x1b[2J\\xff","options":"command=\"a\\x5cb \\x5c\"c\\x5c\" \\xc3\\xa4\"","rights":"port agent x11 pty rc","command":"a\\x5cb \"c\" \\xc3\\xa4","source":null,"principals":null,"expires":null,"shadowed_by":null,"lets_in":true,"findings":[{"code":"F9","detail":""}]}
 {"file":"odd","what":"end","lines":1,"key_lines":1,"unreadable":0,"findings":1,"sha256":"886bbc8ffa56bed5a1030ccd048549abedd0932d9d3863db4d887f07638f2910","fault":null,"why":null}
-{"what":"total","format":2,"program":"ssh_audit 1.0.0","kind":"auth","rsa_minimum":2048,"told":["F1","F2","F3","F4","F5","F6","F7","F8","F9","F10","F11","F12","F13","F14","F22"],"now":1770000000,"at":"2026-02-02T02:40:00Z","zone":"UTC0","files":1,"faults":0,"faults_by_code":{},"lines":1,"key_lines":1,"unreadable":0,"findings":1,"findings_by_code":{"F9":1}}
+{"what":"total","format":2,"program":"ssh_audit 1.0.0","kind":"auth","rsa_minimum":2048,"told":["F1","F2","F3","F4","F5","F6","F7","F8","F9","F10","F11","F12","F13","F14","F22"],"now":1770000000,"at":"2026-02-02T02:40:00Z","zone":"UTC0","files":1,"faults":0,"faults_by_code":{},"lines":1,"key_lines":1,"distinct_keys":1,"unreadable":0,"findings":1,"findings_by_code":{"F9":1}}
 """
 POLICY = r"""web1/ann:2: key ssh-ed25519 SHA256:gXMk5B5PxTYWe+Q7kQzHGRTNDb0nrzC3BLT7EPMvKSg laptop@example
     rights port agent x11 pty rc
@@ -190,7 +190,7 @@ F11: 1, another key of this type for a name of line K
 F12: 1, the line's key is both trusted and revoked: see line K; spelling K: line K has another spelling of it
 F14: 1, an authority for every host
 F13: 1, one key for all hosts that a pattern names
-total: 1 files, 0 faults, 10 lines, 6 key lines, 2 unreadable, 6 findings, asked at 1770000000 2026-02-02T02:40:00Z, zone UTC0
+total: 1 files, 0 faults, 10 lines, 6 key lines, 5 distinct keys, 2 unreadable, 6 findings, asked at 1770000000 2026-02-02T02:40:00Z, zone UTC0
 """
 HOSTS_JSON = r"""{"file":"known","line":2,"what":"key","type":"ssh-ed25519","bits":null,"key":"SHA256:K1O2eINbmb17fEiDcz4h4FqkT185rAHrxyBBdF4KQT8","comment":"","names":"web1.example.org,192.0.2.10","findings":[]}
 {"file":"known","line":3,"what":"key","type":"ssh-ed25519","bits":null,"key":"SHA256:JuhwEfWrsZjKfEIish58B33eZC/AoxsXRDYcAcjBP/Y","comment":"","names":"db1.example.org","findings":[]}
@@ -202,7 +202,7 @@ HOSTS_JSON = r"""{"file":"known","line":2,"what":"key","type":"ssh-ed25519","bit
 {"file":"known","line":9,"what":"unreadable","type":"ssh-ed25519","bits":null,"key":"SHA256:K1O2eINbmb17fEiDcz4h4FqkT185rAHrxyBBdF4KQT8","comment":null,"names":null,"findings":[{"code":"F1","detail":"L16"}]}
 {"file":"known","line":10,"what":"key","type":"ssh-ed25519","bits":null,"key":"SHA256:K1O2eINbmb17fEiDcz4h4FqkT185rAHrxyBBdF4KQT8","comment":"","names":"[git.example.org]:2222","findings":[]}
 {"file":"known","what":"end","lines":10,"key_lines":6,"unreadable":2,"findings":6,"sha256":"256b6d0a7a61116a5090af644595ba7ab28f34ef7693844bf761f174a13ea6fa","fault":null,"why":null}
-{"what":"total","format":2,"program":"ssh_audit 1.0.0","kind":"known","rsa_minimum":2048,"told":["F1","F2","F3","F4","F5","F6","F7","F8","F9","F10","F11","F12","F13","F14","F22"],"now":1770000000,"at":"2026-02-02T02:40:00Z","zone":"UTC0","files":1,"faults":0,"faults_by_code":{},"lines":10,"key_lines":6,"unreadable":2,"findings":6,"findings_by_code":{"F1":1,"F10":1,"F11":1,"F12":1,"F13":1,"F14":1}}
+{"what":"total","format":2,"program":"ssh_audit 1.0.0","kind":"known","rsa_minimum":2048,"told":["F1","F2","F3","F4","F5","F6","F7","F8","F9","F10","F11","F12","F13","F14","F22"],"now":1770000000,"at":"2026-02-02T02:40:00Z","zone":"UTC0","files":1,"faults":0,"faults_by_code":{},"lines":10,"key_lines":6,"distinct_keys":5,"unreadable":2,"findings":6,"findings_by_code":{"F1":1,"F10":1,"F11":1,"F12":1,"F13":1,"F14":1}}
 """
 
 
@@ -745,8 +745,11 @@ def text_lines(made):
 
 def end_lines(made):
     """The end of a file, or how often each code was found and the total, made of their JSON; without sentences."""
-    counts = f"{made['lines']} lines, {made['key_lines']} key lines, {made['unreadable']} unreadable, {made['findings']} findings"
+    lines, rest = f"{made['lines']} lines, {made['key_lines']} key lines", f"{made['unreadable']} unreadable, {made['findings']} findings"
+    counts = f"{lines}, {rest}"
     if made["what"] == "total":
+        distinct = "more than 65536" if made["distinct_keys"] is None else made["distinct_keys"]
+        counts = f"{lines}, {distinct} distinct keys, {rest}"
         found = [f"{code}: {made['findings_by_code'][code]}" for code in WORST_FIRST if code in made["findings_by_code"]]
         return [*found, f"total: {made['files']} files, {made['faults']} faults, {counts}, {asked_at(made['now'], made['zone'])}"]
     why = f": {made['why']}" if made["why"] else ""
@@ -766,7 +769,7 @@ def same_text(objects, text):
 
 def counted(objects, contents):
     """Whether ends and the total count what stands before them; the wrong ones."""
-    sums, here, number, codes = {"files": 0, "faults": 0, "lines": 0, "key_lines": 0, "unreadable": 0, "findings": 0}, [], 0, []
+    sums, here, number, codes, keys = {"files": 0, "faults": 0, "lines": 0, "key_lines": 0, "unreadable": 0, "findings": 0}, [], 0, [], set()
     for made in objects:
         if is_record(made):
             here.append(made)
@@ -782,10 +785,12 @@ def counted(objects, contents):
             sums["files"] += 1
             for name, count in wanted.items():
                 sums[name] += count
+            keys |= {one["key"] for one in here if one["what"] in ("key", "authority")}
             here = []
         else:
             number += 1
             by_code = [(code, codes.count(code)) for code in sorted(set(codes), key=lambda code: int(code[1:]))]
+            sums["distinct_keys"] = len(keys) if len(keys) <= 65_536 else None
             if {name: made[name] for name in sums} != sums or made["format"] != 2 or list(made["findings_by_code"].items()) != by_code:
                 yield made, sums, by_code
     if number != 1 or objects[-1]["what"] != "total":
@@ -1052,8 +1057,8 @@ def end_text(name, content, lines=1, keys=1, unreadable=0, findings=0):
 
 
 def total_text(files, faults=0, lines=0, keys=0, unreadable=0, found=None):
-    """How often these codes were found, and the total."""
-    counts = f"{lines} lines, {keys} key lines, {unreadable} unreadable, {sum((found or {}).values())} findings"
+    """How often these codes were found, and the total. All key lines have one key."""
+    counts = f"{lines} lines, {keys} key lines, {min(keys, 1)} distinct keys, {unreadable} unreadable, {sum((found or {}).values())} findings"
     return found_text(found or {}) + f"total: {files} files, {faults} faults, {counts}, {asked_at()}\n"
 
 

@@ -105,7 +105,7 @@ def reviews_standard_input_once(asker):
     for kind, line in (("auth", KEY), ("known", f"h {KEY}")):
         once = asker.program.run(review("-", kind=kind, findings="none"), line.encode())[1].decode()
         none = asker.program.run(review("-", kind=kind, findings="none"))[1].decode()
-        wanted = without_total(once) + without_total(none) + f"total: 2 files, 0 faults, 1 lines, 1 key lines, 0 unreadable, 0 findings, {asked_at()}\n"
+        wanted = without_total(once) + without_total(none) + f"total: 2 files, 0 faults, 1 lines, 1 key lines, 1 distinct keys, 0 unreadable, 0 findings, {asked_at()}\n"
         asker.check("one key", once.count(K0_MARK), 1)
         compare(asker, review("-", "-", kind=kind, findings="none"), line, wanted, 0)
 

@@ -55,6 +55,11 @@ def counts_text(lines, keys, unreadable, findings):
     return f"{lines} lines, {keys} key lines, {unreadable} unreadable, {findings} findings"
 
 
+def total_counts_text(lines, keys, *others):
+    """All key lines that are counted have the key that is sought."""
+    return counts_text(lines, keys, *others).replace(" key lines, ", f" key lines, {min(keys, 1)} distinct keys, ")
+
+
 def counts_of(records):
     """How many of these records are entries, how many are unreadable, and how many findings of each code they have."""
     kinds = [head.split(" ")[0] for _, head, _ in records]
@@ -77,7 +82,7 @@ def prints_the_records_of_the_key(asker):
                 *counts, found = file.count("\n"), *counts_of(records)
                 counts.append(sum(found.values()))
                 text = "".join(f"f:{number}: {head}\n{rest}" for number, head, rest in records)
-                wanted = text + end_text("f", file.encode(), *counts) + found_text(found) + f"total: 1 files, 0 faults, {counts_text(*counts)}"
+                wanted = text + end_text("f", file.encode(), *counts) + found_text(found) + f"total: 1 files, 0 faults, {total_counts_text(*counts)}"
                 status, answer, errors = asker.program.run(review("f", kind=kind, findings=findings, key=mark))
                 asker.check(f"{mark} in {kind} with {findings}", (status, answer.decode()[: len(wanted)], errors), (1 if lines else 0, wanted, b""))
 

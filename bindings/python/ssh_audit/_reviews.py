@@ -59,7 +59,8 @@ class FileEnd:
 @dataclass(frozen=True)
 class Total:
     """How was asked, and the counts of all files. `faults_by_code` and `findings_by_code` have how often each code was told, and
-    none that was not. A review without its total was cut off."""
+    none that was not. `distinct_keys` counts a key that stands on several lines once, and is None past 65,536 keys. A review without
+    its total was cut off."""
 
     program: str
     now: int
@@ -69,6 +70,7 @@ class Total:
     faults_by_code: Dict[str, int]
     lines: int
     key_lines: int
+    distinct_keys: Optional[int]
     unreadable: int
     findings: int
     findings_by_code: Dict[str, int]
@@ -116,7 +118,7 @@ def _end(told: Dict[str, Any], file: str) -> FileEnd:
 
 
 def _total(told: Dict[str, Any]) -> Total:
-    return Total(*(told[name] for name in ("program", "now", "zone", "files", "faults", "faults_by_code", "lines", "key_lines", "unreadable", "findings", "findings_by_code")))
+    return Total(*(told[name] for name in ("program", "now", "zone", "files", "faults", "faults_by_code", "lines", "key_lines", "distinct_keys", "unreadable", "findings", "findings_by_code")))
 
 
 def review(

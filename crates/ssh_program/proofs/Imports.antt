@@ -83,7 +83,7 @@ pub use Rattle.ssh_program.specs.CommandLine.{request_of, Request, request_in, w
 pub use Rattle.ssh_program.specs.Digests.{answer_where, digest_bytes, IsDigest}
 pub use Rattle.ssh_program.specs.Explanations.{explained_by, usage_after}
 pub use Rattle.ssh_program.specs.FileAnswers.{IsFaultOf, AuditsFile, AuditsVouched, is_memory, AnswersFile}
-pub use Rattle.ssh_program.specs.FileReviews.{telling_review, lines_before, with_file, review_of, review_over, ReviewsFiles}
+pub use Rattle.ssh_program.specs.FileReviews.{telling_review, lines_before, with_file, review_of, ReviewsFiles}
 pub use Rattle.ssh_program.specs.FileSamples.{faults_in_order, hash_faults_in_order, rewrite_kinds, signature_faults_in_order, trust_files_left, vouch_files_reported, vouch_files_written}
 pub use Rattle.ssh_program.specs.GrantedRuns.{AsksFor, TellsHost, TellsLogin}
 pub use Rattle.ssh_program.specs.Granting.{HostDenied, HostGranted, LoginDenied, LoginGranted, TrustsBytes, HostHeard, LoginHeard}

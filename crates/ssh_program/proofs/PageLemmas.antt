@@ -20,11 +20,13 @@ use Rattle.ssh_review.specs.declared.end.FileFault.{FileFault}
 use Rattle.ssh_review.specs.declared.end.FileFault.TheVariants.{Unread}
 use Rattle.ssh_review.specs.declared.end.Total.{Total}
 use Rattle.ssh_review.specs.Ends.{total_words}
+use Rattle.ssh_review.specs.DistinctKeys.{KeySet, key_count, keys_seen, with_keys}
+use Rattle.ssh_review.proofs.DistinctLemmas.{keys-behind}
 use Rattle.ssh_review.specs.FileNames.{NameSeen, shown_name}
 use Rattle.ssh_review.specs.PageFiles.{unread_row, unread_section}
 use Rattle.ssh_program.specs.declared.review_page.MadePage.{MadePage}
-use Rattle.ssh_program.specs.declared.streaming.FileReported.{FileReported}
-use Rattle.ssh_program.specs.PageReviews.{FileGiven, IsReported, PageMarks, PageSofar, PageReported, ReviewsPage, fault_kept, fault_read, given_bytes, given_kept, made_response, no_page, page_kept, page_response, page_rest, parts_response, row_by, section_by, telling_given, with_given, within}
+use Rattle.ssh_program.specs.declared.review.FileNoted.{FileNoted}
+use Rattle.ssh_program.specs.PageReviews.{FileGiven, IsReported, PageMarks, PageSofar, PageReported, ReviewsPage, fault_noted, fault_read, given_bytes, given_kept, given_keys, given_noted, made_response, no_page, page_kept, page_response, page_rest, parts_response, row_by, section_by, telling_given, with_given, within}
 use Rattle.ssh_program.specs.FileReviews.{file_kind}
 use Rattle.ssh_program.specs.PageFronts.{codes_found, page_front, page_question, page_totals}
 use Rattle.ssh_program.specs.Printing.{WritesAnswer}
@@ -34,11 +36,11 @@ use Rattle.ssh_program.proofs.FileLemmas.{both_in, kept-and-cause, within-false}
 -- ---- one file
 
 -- what was appended for a file, in one fact
-reports-of : {E : Type 0} (res : Result FileReported E) (A B : Type 0) (kept : FileReported) → OnOk res A → OnOk res B → IfOk res (λ reported. reported ≡ kept) → IfOk res (λ reported. A × B × (reported ≡ kept))
+reports-of : {E : Type 0} (res : Result FileNoted E) (A B : Type 0) (kept : FileNoted) → OnOk res A → OnOk res B → IfOk res (λ reported. reported ≡ kept) → IfOk res (λ reported. A × B × (reported ≡ kept))
 reports-of (Ok reported) A B kept a b k = (a, b, k)
 reports-of (Err e) A B kept a b k = tt
 
-with-given : {E : Type 0} (res : Result FileReported E) (G : FileGiven → Type 0) (T : FileGiven → FileReported → Type 0) (given : FileGiven) → G given → IfOk res (T given) → IfOk res (λ reported. (f : FileGiven) × G f × T f reported)
+with-given : {E : Type 0} (res : Result FileNoted E) (G : FileGiven → Type 0) (T : FileGiven → FileNoted → Type 0) (given : FileGiven) → G given → IfOk res (T given) → IfOk res (λ reported. (f : FileGiven) × G f × T f reported)
 with-given (Ok reported) G T given g h = (given, g, h)
 with-given (Err e) G T given g h = tt
 
@@ -64,15 +66,15 @@ given-read name shown file bytes (Some s) t front few is loads keeps = λ counts
       ),
     )
 
-pub file-line_reports : {E : Type 0} (kind : FileKind) (number : ℕ) (asking : Asking) (name : NameSeen) (shown file bytes : List ℕ) (o t : Option SourceState) (res : Result FileReported E) (sections after register later : List ℕ)
+pub file-line_reports : {E : Type 0} (kind : FileKind) (number : ℕ) (keys : KeySet) (asking : Asking) (name : NameSeen) (shown file bytes : List ℕ) (o t : Option SourceState) (res : Result FileNoted E) (sections after register later : List ℕ)
     → shown ≡ shown_name name → length bytes ≤ file_limit → bytes ≡ file → IfTells o (λ s. (within_limit (bytes_at s name.path) ≡ Some file) × IsLeft s (after_whole s name.path) t) → IfTells o (λ s. KeepsOthers name.path s t)
     → OnOk res (after ≡ sections ++ marks (section_by kind number asking shown (Ok bytes))) → OnOk res (later ≡ register ++ marks (row_by kind number asking shown (Ok bytes)))
-    → IfOk res (λ reported. reported ≡ given_kept kind asking (Ok bytes))
-    → IfOk res (λ reported. (given : FileGiven) × IfTells o (λ s. TellsFile telling_given name s t given) × IsReported kind number asking given sections after register later reported)
-file-line_reports kind number asking name shown file bytes o t res sections after register later front few is loads keeps section row kept =
-    with-given res (λ given. IfTells o (λ s. TellsFile telling_given name s t given)) (λ given reported. IsReported kind number asking given sections after register later reported)
+    → IfOk res (λ reported. reported ≡ given_noted kind keys asking (Ok bytes))
+    → IfOk res (λ reported. (given : FileGiven) × IfTells o (λ s. TellsFile telling_given name s t given) × IsReported kind number keys asking given sections after register later reported)
+file-line_reports kind number keys asking name shown file bytes o t res sections after register later front few is loads keeps section row kept =
+    with-given res (λ given. IfTells o (λ s. TellsFile telling_given name s t given)) (λ given reported. IsReported kind number keys asking given sections after register later reported)
     (record { name = shown; bytes = Ok bytes }) (given-read name shown file bytes o t front few is loads keeps)
-    (reports-of res (after ≡ sections ++ marks (section_by kind number asking shown (Ok bytes))) (later ≡ register ++ marks (row_by kind number asking shown (Ok bytes))) (given_kept kind asking (Ok bytes)) section row kept)
+    (reports-of res (after ≡ sections ++ marks (section_by kind number asking shown (Ok bytes))) (later ≡ register ++ marks (row_by kind number asking shown (Ok bytes))) (given_noted kind keys asking (Ok bytes)) section row kept)
 
 -- one that gives no bytes
 too-long : (given : Result (List ℕ) UnreadCause) → IsTooLong (bytes_of given) → Err TooLong ≡ given_bytes given
@@ -107,51 +109,61 @@ given-unread name shown o t read.Failed cause front some fails keeps why =
       inl (f, ap (λ (n : List ℕ). as-given n (Err (Unread cause))) front ∙ ap (λ (c : UnreadCause). as-given (shown_name name) (Err (Unread c))) k.1),
     )) fails (kept-and-cause name.path cause t o keeps why)
 
-pub file-unread : {E : Type 0} (kind : FileKind) (number : ℕ) (asking : Asking) (name : NameSeen) (shown : List ℕ) (o t : Option SourceState) (e : ReadError) (cause : UnreadCause) (res : Result FileReported E) (sections after register later : List ℕ)
+pub file-unread : {E : Type 0} (kind : FileKind) (number : ℕ) (keys : KeySet) (asking : Asking) (name : NameSeen) (shown : List ℕ) (o t : Option SourceState) (e : ReadError) (cause : UnreadCause) (res : Result FileNoted E) (sections after register later : List ℕ)
     → shown ≡ shown_name name → IfTells o (λ s. FailsLoad name.path (bytes_at s name.path) s t e) → IfTells o (λ s. KeepsOthers name.path s t) → IfTells o (λ s. cause ≡ cause_at s name.path)
     → OnOk res (e ≡ read.Memory → ⊥) → OnOk res (after ≡ sections ++ marks (unread_section number shown (fault_read e cause))) → OnOk res (later ≡ register ++ marks (unread_row number shown (fault_read e cause)))
-    → IfOk res (λ reported. reported ≡ fault_kept (fault_read e cause))
-    → IfOk res (λ reported. (given : FileGiven) × IfTells o (λ s. TellsFile telling_given name s t given) × IsReported kind number asking given sections after register later reported)
-file-unread kind number asking name shown o t e cause (Ok reported) sections after register later front fails keeps why some section row kept =
+    → IfOk res (λ reported. reported ≡ fault_noted keys (fault_read e cause))
+    → IfOk res (λ reported. (given : FileGiven) × IfTells o (λ s. TellsFile telling_given name s t given) × IsReported kind number keys asking given sections after register later reported)
+file-unread kind number keys asking name shown o t e cause (Ok reported) sections after register later front fails keeps why some section row kept =
     (as-given shown (Err (fault_read e cause)), given-unread name shown o t e cause front some fails keeps why, (section, row, kept))
-file-unread kind number asking name shown o t e cause (Err x) sections after register later front fails keeps why some section row kept = tt
+file-unread kind number keys asking name shown o t e cause (Err x) sections after register later front fails keeps why some section row kept = tt
 
 -- ---- all files
 
 -- the files at the front tell this, in marked text
-abbrev pub ReportedSoFar : ReviewKind → Asking → List NameSeen → List NameSeen → SourceState → Option SourceState → PageMarks → Type 0
-ReportedSoFar kind asking names left s now k = (sofar : PageSofar) × (k ≡ page_kept sofar) × Leads (with_given kind asking) telling_given no_page names s left now sofar
+abbrev pub ReportedSoFar : ReviewKind → Asking → List NameSeen → List NameSeen → SourceState → Option SourceState → PageMarks → KeySet → Type 0
+ReportedSoFar kind asking names left s now k keys = (sofar : PageSofar) × (k ≡ page_kept sofar) × (keys ≡ keys_seen sofar.keys) × Leads (with_given kind asking) telling_given no_page names s left now sofar
 
-pub reports-first : (kind : ReviewKind) (asking : Asking) (names : List NameSeen) (o : Option SourceState) (k : PageMarks) → k ≡ page_kept no_page → IfTells o (λ s. ReportedSoFar kind asking names names s o k)
-reports-first kind asking names None k is = tt
-reports-first kind asking names (Some s) k is = λ counts. (no_page, is, leads_begin (with_given kind asking) telling_given no_page names (Some s) counts)
+pub reports-first : (kind : ReviewKind) (asking : Asking) (names : List NameSeen) (o : Option SourceState) (k : PageMarks) (keys : KeySet) → k ≡ page_kept no_page → keys ≡ keys_seen []
+    → IfTells o (λ s. ReportedSoFar kind asking names names s o k keys)
+reports-first kind asking names None k keys is none = tt
+reports-first kind asking names (Some s) k keys is none = λ counts. (no_page, is, none, leads_begin (with_given kind asking) telling_given no_page names (Some s) counts)
 
 -- with one more file
-kept-more : (kind : ReviewKind) (asking : Asking) (sofar : PageSofar) (f : FileGiven) (k : PageMarks) (sections register : List ℕ) (reported : FileReported) → k ≡ page_kept sofar
-    → IsReported (file_kind kind) k.total.files asking f k.sections sections k.register register reported
-    → record { sections = sections; register = register; total = with_counted k.total reported.counts reported.fault } ≡ page_kept (with_given kind asking sofar f)
-kept-more kind asking sofar f k sections register reported is (section, row, kept) = rw (section, row, kept, is) refl
+keys-more : (kind : FileKind) (number : ℕ) (keys : KeySet) (asking : Asking) (sofar : PageSofar) (f : FileGiven) (sections after register later : List ℕ) (noted : FileNoted) → keys ≡ keys_seen sofar.keys
+    → IsReported kind number keys asking f sections after register later noted → noted.keys ≡ keys_seen (sofar.keys ++ given_keys kind f.bytes)
+keys-more kind number keys asking sofar f sections after register later noted seen (section, row, kept) =
+    ap (λ (x : FileNoted). x.keys) kept ∙ (ap (λ (s : KeySet). with_keys s (given_keys kind f.bytes)) seen ∙ keys-behind sofar.keys (given_keys kind f.bytes))
 
-pub reports-next : (kind : ReviewKind) (asking : Asking) (names : List NameSeen) (name : NameSeen) (left rest : List NameSeen) (o now next : Option SourceState) (k after : PageMarks) (reported : FileReported) (like : FileKind)
-    → left ≡ name ∷ rest → IfTells o (λ s. ReportedSoFar kind asking names left s now k) → like ≡ file_kind kind
-    → (given : FileGiven) × IfTells now (λ m. TellsFile telling_given name m next given) × IsReported like k.total.files asking given k.sections after.sections k.register after.register reported
-    → after.total ≡ with_counted k.total reported.counts reported.fault
-    → IfTells o (λ s. ReportedSoFar kind asking names rest s next after)
-reports-next kind asking names name left rest None now next k after reported like is h same_kind line_reports total = tt
-reports-next kind asking names name left rest (Some s) now next k after reported like is h same_kind (given, file, line_reports) total = λ counts.
-    let (sofar, same, lead) = h counts in (
+kept-more : (kind : ReviewKind) (keys : KeySet) (asking : Asking) (sofar : PageSofar) (f : FileGiven) (k : PageMarks) (sections register : List ℕ) (noted : FileNoted) → k ≡ page_kept sofar → keys ≡ keys_seen sofar.keys
+    → IsReported (file_kind kind) k.total.files keys asking f k.sections sections k.register register noted
+    → record { sections = sections; register = register; total = with_counted k.total (key_count noted.keys) noted.reported.counts noted.reported.fault } ≡ page_kept (with_given kind asking sofar f)
+kept-more kind keys asking sofar f k sections register noted is seen (section, row, kept) =
+    let same : noted.keys ≡ keys_seen (sofar.keys ++ given_keys (file_kind kind) f.bytes) = keys-more (file_kind kind) k.total.files keys asking sofar f k.sections sections k.register register noted seen (section, row, kept) in
+    let counted : noted.reported ≡ given_kept (file_kind kind) asking f.bytes = ap (λ (x : FileNoted). x.reported) kept in
+    rw (same, section, row, counted, is) refl
+
+pub reports-next : (kind : ReviewKind) (asking : Asking) (names : List NameSeen) (name : NameSeen) (left rest : List NameSeen) (o now next : Option SourceState) (k after : PageMarks) (keys : KeySet) (noted : FileNoted) (like : FileKind)
+    → left ≡ name ∷ rest → IfTells o (λ s. ReportedSoFar kind asking names left s now k keys) → like ≡ file_kind kind
+    → (given : FileGiven) × IfTells now (λ m. TellsFile telling_given name m next given) × IsReported like k.total.files keys asking given k.sections after.sections k.register after.register noted
+    → after.total ≡ with_counted k.total (key_count noted.keys) noted.reported.counts noted.reported.fault
+    → IfTells o (λ s. ReportedSoFar kind asking names rest s next after noted.keys)
+reports-next kind asking names name left rest None now next k after keys noted like is h same_kind line_reports total = tt
+reports-next kind asking names name left rest (Some s) now next k after keys noted like is h same_kind (given, file, line_reports) total = λ counts.
+    let (sofar, same, seen, lead) = h counts in
+    let reports = subst (λ (x : FileKind). IsReported x k.total.files keys asking given k.sections after.sections k.register after.register noted) same_kind line_reports in (
       with_given kind asking sofar given,
       ap (λ (t : Total). record { sections = after.sections; register = after.register; total = t }) total
-          ∙ kept-more kind asking sofar given k after.sections after.register reported same
-          (subst (λ (x : FileKind). IsReported x k.total.files asking given k.sections after.sections k.register after.register reported) same_kind line_reports),
+          ∙ kept-more kind keys asking sofar given k after.sections after.register noted same seen reports,
+      keys-more (file_kind kind) k.total.files keys asking sofar given k.sections after.sections k.register after.register noted seen reports,
       leads_next (with_given kind asking) telling_given no_page names name left rest (Some s) now next sofar given (with_given kind asking sofar given) is refl (λ _. lead) file counts,
     )
 
-pub reports-last : (kind : ReviewKind) (asking : Asking) (names left : List NameSeen) (o now : Option SourceState) (k : PageMarks) → left ≡ []
-    → IfTells o (λ s. ReportedSoFar kind asking names left s now k) → IfTells o (λ s. PageReported kind asking names s now k)
-reports-last kind asking names left None now k none h = tt
-reports-last kind asking names left (Some s) now k none h = λ counts.
-    let (sofar, same, lead) = h counts in (
+pub reports-last : (kind : ReviewKind) (asking : Asking) (names left : List NameSeen) (o now : Option SourceState) (k : PageMarks) (keys : KeySet) → left ≡ []
+    → IfTells o (λ s. ReportedSoFar kind asking names left s now k keys) → IfTells o (λ s. PageReported kind asking names s now k)
+reports-last kind asking names left None now k keys none h = tt
+reports-last kind asking names left (Some s) now k keys none h = λ counts.
+    let (sofar, same, seen, lead) = h counts in (
       sofar,
       same,
       leads_end (with_given kind asking) telling_given no_page names left (Some s) now sofar none (λ _. lead) counts,

@@ -1,5 +1,5 @@
 -- A text that is written as it is made, and the review that it is of.
-use Rattle.ssh_program.proofs.Imports.{◌≡◌, ◌∙◌, ◌<◌, ◌⊎◌, ◌++◌, ℕ, List, [], ◌∷◌, Option, None, Result, Ok, Err, ap, sym, refl, inl, inr, length, arith, append_assoc, append-nil, length-append, Account, Breaks, TakesAll, TakesUpTo, Asking, IfTells, SourceState, TellsFile, Form, RecordForm, AsLines}
+use Rattle.ssh_program.proofs.Imports.{◌≡◌, ◌∙◌, ◌<◌, ◌⊎◌, ◌++◌, ℕ, List, [], ◌∷◌, Option, None, Result, Ok, Err, OnOk, ap, sym, subst, refl, inl, inr, length, arith, append_assoc, append-nil, length-append, Account, Breaks, TakesAll, TakesUpTo, Asking, IfTells, SourceState, TellsFile, Form, RecordForm, AsLines}
 use Rattle.ssh_files.specs.FilesInTurn.{Telling}
 use Rattle.ssh_review.proofs.ShownRecordLemmas.{no-records}
 use Rattle.ssh_review.specs.EndObjects.{end_object}
@@ -16,7 +16,8 @@ use Rattle.ssh_review.specs.LineReports.{LineReport}
 use Rattle.ssh_program.specs.declared.streaming.FileReported.{FileReported}
 use Rattle.ssh_program.specs.declared.streaming.Stop.{Stop}
 use Rattle.ssh_program.specs.declared.streaming.Stop.TheVariants as stop
-use Rattle.ssh_program.specs.FileReviews.{IsCutAt, TextPut, TextWritten}
+use Rattle.ssh_program.specs.FileReviews.{IsCutAt, TextPut, TextWritten, with_noted}
+use Rattle.ssh_review.specs.DistinctKeys.{KeySet}
 use Rattle.ssh_program.proofs.WrittenText.{at_last, both_taken, broken_on, nothing_taken, taken_on}
 
 -- ---- an end is not empty, where it is shown
@@ -143,6 +144,21 @@ text-reported tells text_of of name o t old new (Ok k) reported file (taken, is)
 text-reported tells text_of of name o t old new (Err stop.Memory) reported file (part, inl none, taken) = (part, taken, inl none)
 text-reported tells text_of of name o t old new (Err stop.Memory) reported file (part, inr is_front, taken) = (part, taken, inr (reported, file, is_front))
 text-reported tells text_of of name o t old new (Err stop.Write) reported file breaks = (reported, file, breaks)
+
+-- what is kept of a text with these keys
+pub put-noted : (text : List ℕ) (kept : FileReported) (keys : KeySet) (old new : Option Account) (r : Result FileReported Stop) → TextPut text kept old new r
+    → TextPut text (record { reported = kept; keys = keys }) old new (with_noted r keys)
+put-noted text kept keys old new (Ok k) (taken, is) = (taken, ap (λ (x : FileReported). record { reported = x; keys = keys }) is)
+put-noted text kept keys old new (Err stop.Memory) put = put
+put-noted text kept keys old new (Err stop.Write) put = put
+
+-- the same, where the keys are these if all was taken
+pub put-kept : (text : List ℕ) (kept : FileReported) (keys seen : KeySet) (old new : Option Account) (r : Result FileReported Stop) → OnOk r (keys ≡ seen) → TextPut text kept old new r
+    → TextPut text (record { reported = kept; keys = seen }) old new (with_noted r keys)
+put-kept text kept keys seen old new (Ok k) same put =
+    subst (λ (s : KeySet). TextPut text (record { reported = kept; keys = s }) old new (with_noted (Ok k) keys)) same (put-noted text kept keys old new (Ok k) put)
+put-kept text kept keys seen old new (Err stop.Memory) same put = put
+put-kept text kept keys seen old new (Err stop.Write) same put = put
 
 -- nothing was
 pub nothing-reported : {N A K : Type 0} (tells : Telling N A) (text_of : A → List ℕ) (of : A → K) (name : N) (o t : Option SourceState) (old new : Option Account) → TakesAll old new []

@@ -136,6 +136,14 @@ front-reported with tells start names left s now sofar counts w = record {
 abbrev pub WrittenSoFar : {N A B K : Type 0} → (B → A → B) → Telling N A → B → (B → List ℕ) → (B → K) → List N → List N → SourceState → Option SourceState → Option Account → Option Account → K → Type 0
 WrittenSoFar with tells start text kept names left s now old new k = (sofar : _) × (k ≡ kept sofar) × ReadSoFar with tells start names left s now sofar × TakesAll old new (text sofar)
 
+-- less may be kept of it
+pub kept_part : {N A B K L : Type 0} (with : B → A → B) (tells : Telling N A) (start : B) (text : B → List ℕ) (kept : B → K) (part : K → L) (names left : List N) (o now : Option SourceState) (old new : Option Account) (k : K)
+    → IfTells o (λ s. WrittenSoFar with tells start text kept names left s now old new k) → IfTells o (λ s. WrittenSoFar with tells start text (λ sofar. part (kept sofar)) names left s now old new (part k))
+kept_part with tells start text kept part names left None now old new k h = tt
+kept_part with tells start text kept part names left (Some s) now old new k h = λ counts.
+    let (sofar, same, read, all) = h counts in
+    (sofar, ap part same, read, all)
+
 pub written_first : {N A B K : Type 0} (with : B → A → B) (tells : Telling N A) (start : B) (text : B → List ℕ) (kept : B → K) (names : List N) (o : Option SourceState) (old new : Option Account) → TakesAll old new (text start)
     → IfTells o (λ s. WrittenSoFar with tells start text kept names names s o old new (kept start))
 written_first with tells start text kept names None old new taken = tt

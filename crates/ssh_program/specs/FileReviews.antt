@@ -1,5 +1,5 @@
 -- The reviews of files, one after the other (this project's rule).
-use Rattle.std.specs.Prelude.{◌≡◌, ◌<◌, ◌⊎◌, ◌++◌, ℕ, List, [], ◌∷◌, false, length, Option, Result, Ok, Err, codes, ⊤}
+use Rattle.std.specs.Prelude.{◌≡◌, ◌<◌, ◌⊎◌, ◌++◌, ℕ, List, [], ◌∷◌, false, nat_lt, if◌then◌else◌, length, Option, Result, Ok, Err, codes, ⊤}
 use Rattle.ssh_findings.specs.Asking.{Asking}
 use Rattle.ssh_findings.specs.declared.code.Code.{Code}
 use Rattle.ssh_files.specs.FilesInTurn.{Telling, TellsFile, TellsFiles}
@@ -10,7 +10,11 @@ use Rattle.ssh_files.specs.declared.read.ReadError.TheVariants as read
 use Rattle.ssh_page.specs.declared.file.FileKind.{FileKind}
 use Rattle.ssh_page.specs.declared.file.FileKind.TheVariants.{AuthorizedKeys, KnownHosts}
 use Rattle.ssh_print.specs.Responses.{Response, out_of_memory}
+use Rattle.ssh_text.specs.Text.{file_limit}
+use Rattle.ssh_review.specs.declared.end.Counts.{Counts}
+use Rattle.ssh_review.specs.declared.end.FileFault.{FileFault}
 use Rattle.ssh_review.specs.declared.end.FileFault.TheVariants.{TooLong, Unread}
+use Rattle.ssh_review.specs.DistinctKeys.{KeySet, distinct_keys, file_keys, with_keys}
 use Rattle.ssh_review.specs.declared.end.Total.{Total}
 use Rattle.ssh_review.specs.declared.end.Form.{Form}
 use Rattle.ssh_review.specs.FileNames.{NameSeen, file_head}
@@ -21,43 +25,46 @@ use Rattle.ssh_review.specs.ShownRecords.{shown_auth_review, shown_known_review}
 use Rattle.ssh_review.specs.declared.show.Show.{Show}
 use Rattle.ssh_program.specs.declared.review.ReviewKind.{ReviewKind}
 use Rattle.ssh_program.specs.declared.review.ReviewKind.TheVariants.{Auth, Known}
+use Rattle.ssh_program.specs.declared.review.FileNoted.{FileNoted}
 use Rattle.ssh_program.specs.declared.streaming.FileReported.{FileReported}
 use Rattle.ssh_program.specs.declared.streaming.Stop.{Stop}
 use Rattle.ssh_program.specs.declared.streaming.Stop.TheVariants.{Memory, Write}
 use Rattle.ssh_program.specs.Account.{Account, NoneFailed}
 use Rattle.ssh_program.specs.Printing.{Breaks, TakesAll, behind}
-use Rattle.ssh_program.specs.Totals.{nothing, total_status, with_review}
+use Rattle.ssh_program.specs.Totals.{nothing, total_status, with_counted}
 
--- the output lines of some files, and their total
+-- what a file tells: its review, and the keys on its key lines
+pub record FileTold : Type 0 where
+  pub text : List ℕ
+  pub counts : Counts
+  pub fault : Option FileFault
+  pub keys : List (List ℕ)
+
+abbrev pub told : Review → List (List ℕ) → FileTold
+told r keys = record { text = r.text; counts = r.counts; fault = r.fault; keys = keys }
+
+-- the output lines of some files, their total, and the keys on their key lines
 pub record Lines : Type 0 where
   pub total : Total
+  pub keys : List (List ℕ)
   pub text : List ℕ
 
 -- before the first file: a table has its header
 abbrev pub lines_before : Form → Lines
-lines_before form = record { total = nothing; text = first_lines form }
+lines_before form = record { total = nothing; keys = []; text = first_lines form }
 
--- the lines so far, followed by the review of one more file
-abbrev pub with_file : Lines → Review → Lines
-with_file sofar r = record { total = with_review sofar.total r; text = sofar.text ++ r.text }
+-- The lines so far, followed by the review of one more file. A key that stands in two files counts once.
+abbrev pub with_file : Lines → FileTold → Lines
+with_file sofar f = record {
+  total = with_counted sofar.total (distinct_keys (sofar.keys ++ f.keys)) f.counts f.fault;
+  keys = sofar.keys ++ f.keys;
+  text = sofar.text ++ f.text;
+}
 
 -- the review of a file of this format, name and bytes, of which this is shown
 abbrev pub review_of : ReviewKind → Show → Form → Asking → List ℕ → List ℕ → Review
 review_of Auth show form asking name file = shown_auth_review show form asking name file
 review_of Known show form asking name file = shown_known_review show form asking name file
-
--- the same of what is given of a file, each record of which begins with this head; one that is missing has the fault A9, and why
-abbrev pub review_over : ReviewKind → Show → Form → Asking → List ℕ → Result (List ℕ) UnreadCause → Review
-review_over kind show form asking name (Err cause) = fault_review form name (Unread cause)
-review_over kind show form asking name (Ok file) = review_of kind show form asking name file
-
--- a file of which a read fails has the fault A9 too
-abbrev pub telling_review : ReviewKind → Show → Form → Asking → Telling NameSeen Review
-telling_review kind show form asking = record {
-  path = λ name. name.path;
-  of_bytes = λ name given. review_over kind show form asking (file_head form name) given;
-  of_fault = λ name cause. fault_review form (file_head form name) (Unread cause);
-}
 
 -- the format by its name in `--kind`
 abbrev pub kind_name : ReviewKind → List ℕ
@@ -68,6 +75,31 @@ kind_name Known = codes "known"
 abbrev pub file_kind : ReviewKind → FileKind
 file_kind Auth = AuthorizedKeys
 file_kind Known = KnownHosts
+
+-- the keys on the key lines of a file that is reviewed: one past the limit is not
+abbrev pub keys_within : FileKind → List ℕ → List (List ℕ)
+keys_within kind file = if nat_lt file_limit (length file) then [] else file_keys kind file
+
+-- the review of a file of these bytes, and its keys
+abbrev pub told_of : ReviewKind → Show → Form → Asking → List ℕ → List ℕ → FileTold
+told_of kind show form asking name file = told (review_of kind show form asking name file) (keys_within (file_kind kind) file)
+
+-- a file with a fault has no key line
+abbrev pub fault_told : Form → List ℕ → FileFault → FileTold
+fault_told form name fault = told (fault_review form name fault) []
+
+-- the same of what is given of a file, each record of which begins with this head; one that is missing has the fault A9, and why
+abbrev pub told_over : ReviewKind → Show → Form → Asking → List ℕ → Result (List ℕ) UnreadCause → FileTold
+told_over kind show form asking name (Err cause) = fault_told form name (Unread cause)
+told_over kind show form asking name (Ok file) = told_of kind show form asking name file
+
+-- a file of which a read fails has the fault A9 too
+abbrev pub telling_review : ReviewKind → Show → Form → Asking → Telling NameSeen FileTold
+telling_review kind show form asking = record {
+  path = λ name. name.path;
+  of_bytes = λ name given. told_over kind show form asking (file_head form name) given;
+  of_fault = λ name cause. fault_told form (file_head form name) (Unread cause);
+}
 
 -- ---- files whose texts are written one after the other
 
@@ -142,6 +174,14 @@ BeforePut form old new (Err Write) = Breaks old new (first_lines form)
 -- what is kept of a review whose text is written
 abbrev pub review_kept : Review → FileReported
 review_kept r = record { counts = r.counts; stands = false; fault = r.fault }
+
+-- the same, and the keys of all files up to this one
+abbrev pub file_kept : KeySet → FileTold → FileNoted
+file_kept keys f = record { reported = record { counts = f.counts; stands = false; fault = f.fault }; keys = with_keys keys f.keys }
+
+abbrev pub with_noted : Result FileReported Stop → KeySet → Result FileNoted Stop
+with_noted (Ok reported) keys = Ok (record { reported = reported; keys = keys })
+with_noted (Err stop) keys = Err stop
 
 -- what came of writing the end of a file whose bytes could not be had
 abbrev pub UnreadPut : Form → List ℕ → ReadError → UnreadCause → Option Account → Option Account → Result FileReported Stop → Type 0

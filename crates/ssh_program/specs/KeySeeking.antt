@@ -1,5 +1,5 @@
 -- The reviews of files for one key, one after the other (this project's rule).
-use Rattle.std.specs.Prelude.{◌≡◌, ◌⊎◌, ◌++◌, ◌||◌, ℕ, nat_lt, Bool, true, false, if◌then◌else◌, List, Option, Some, None, Result, Ok, Err, option_map}
+use Rattle.std.specs.Prelude.{◌≡◌, ◌+◌, ◌⊎◌, ◌++◌, ◌||◌, ℕ, min, nat_lt, Bool, true, false, if◌then◌else◌, List, Option, Some, None, Result, Ok, Err, option_map}
 use Rattle.ssh_keys.specs.Fingerprint.{digest_text_of}
 use Rattle.ssh_findings.specs.Asking.{Asking}
 use Rattle.ssh_findings.specs.declared.code.Code.{Code}
@@ -16,7 +16,7 @@ use Rattle.ssh_review.specs.declared.end.Form.{Form}
 use Rattle.ssh_review.specs.declared.end.Total.{Total}
 use Rattle.ssh_review.specs.declared.show.Show.{Show}
 use Rattle.ssh_review.specs.FileNames.{NameSeen, file_head}
-use Rattle.ssh_review.specs.Forms.{total_line}
+use Rattle.ssh_review.specs.Forms.{first_lines, total_line}
 use Rattle.ssh_review.specs.KeyReviews.{KeyReview, auth_key_review, key_fault_review, known_key_review}
 use Rattle.ssh_program.specs.declared.args.ArgName.TheVariants as option
 use Rattle.ssh_program.specs.declared.key_seeking.KeyTotal.{KeyTotal}
@@ -24,16 +24,22 @@ use Rattle.ssh_program.specs.declared.streaming.FileReported.{FileReported}
 use Rattle.ssh_program.specs.declared.review.ReviewKind.{ReviewKind}
 use Rattle.ssh_program.specs.declared.review.ReviewKind.TheVariants.{Auth, Known}
 use Rattle.ssh_program.specs.Audits.{IsFileFault}
-use Rattle.ssh_program.specs.FileReviews.{EndsEarly, Lines, ReviewsFiles, kind_name, lines_before, with_file}
+use Rattle.ssh_program.specs.FileReviews.{EndsEarly, ReviewsFiles, kind_name}
+use Rattle.ssh_program.specs.Totals.{nothing, with_counted}
 use Rattle.ssh_program.specs.FingerprintValues.{fingerprint_bytes, is_fingerprint}
 use Rattle.ssh_program.specs.OfferPrints.{offer_print}
 use Rattle.ssh_program.specs.Spelling.{RespondsTo, or_fault}
 
 -- ---- the files
 
--- the output lines of some files, their total, and whether the key stands in one of them
+-- the output lines of some files, and their total
+pub record SoughtLines : Type 0 where
+  pub total : Total
+  pub text : List ℕ
+
+-- the same, and whether the key stands in one of them
 pub record KeyLines : Type 0 where
-  pub lines : Lines
+  pub lines : SoughtLines
   pub stands : Bool
 
 -- what is kept of the lines, whose text is written
@@ -41,11 +47,21 @@ abbrev pub key_total : KeyLines → KeyTotal
 key_total k = record { total = k.lines.total; stands = k.stands }
 
 abbrev pub key_lines_before : Form → KeyLines
-key_lines_before form = record { lines = lines_before form; stands = false }
+key_lines_before form = record { lines = record { total = nothing; text = first_lines form }; stands = false }
+
+-- all key lines that are counted have the key that is sought, so it is the only one, where there is such a line
+abbrev pub one_key : ℕ → ℕ → Option ℕ
+one_key lines more = Some (min 1 (lines + more))
 
 -- the lines so far, followed by the review of one more file
 abbrev pub with_key_file : KeyLines → KeyReview → KeyLines
-with_key_file sofar r = record { lines = with_file sofar.lines r.file; stands = sofar.stands || r.stands }
+with_key_file sofar r = record {
+  lines = record {
+    total = with_counted sofar.lines.total (one_key sofar.lines.total.counts.keys r.file.counts.keys) r.file.counts r.file.fault;
+    text = sofar.lines.text ++ r.file.text;
+  };
+  stands = sofar.stands || r.stands;
+}
 
 -- what is kept of a review whose text is written
 abbrev pub key_review_kept : KeyReview → FileReported

@@ -1,5 +1,5 @@
 -- The page of a review: what each file has on it, one after the other, and the whole (this project's rule).
-use Rattle.std.specs.Prelude.{◌≡◌, ◌++◌, ℕ, nat_lt, false, List, length, Option, Some, None, Result, Ok, Err, if◌then◌else◌}
+use Rattle.std.specs.Prelude.{◌≡◌, ◌++◌, ℕ, nat_lt, false, List, [], length, Option, Some, None, Result, Ok, Err, if◌then◌else◌}
 use Rattle.ssh_text.specs.Text.{file_limit}
 use Rattle.ssh_findings.specs.Asking.{Asking}
 use Rattle.ssh_findings.specs.declared.code.Code.{Code}
@@ -20,12 +20,14 @@ use Rattle.ssh_review.specs.declared.end.Total.{Total}
 use Rattle.ssh_review.specs.Counting.{no_counts}
 use Rattle.ssh_review.specs.FileNames.{NameSeen, shown_name}
 use Rattle.ssh_review.specs.Ends.{total_words}
+use Rattle.ssh_review.specs.DistinctKeys.{KeySet, distinct_keys, file_keys, with_keys}
 use Rattle.ssh_review.specs.PageFiles.{file_counts, file_section, register_row, unread_row, unread_section}
 use Rattle.ssh_program.specs.declared.review.ReviewKind.{ReviewKind}
 use Rattle.ssh_program.specs.declared.review_page.MadePage.{MadePage}
 use Rattle.ssh_program.specs.declared.review_page.PageParts.{PageParts}
+use Rattle.ssh_program.specs.declared.review.FileNoted.{FileNoted}
 use Rattle.ssh_program.specs.declared.streaming.FileReported.{FileReported}
-use Rattle.ssh_program.specs.FileReviews.{file_kind}
+use Rattle.ssh_program.specs.FileReviews.{Lines, file_kind}
 use Rattle.ssh_program.specs.PageFronts.{codes_found, front_of, page_question, page_totals}
 use Rattle.ssh_program.specs.Totals.{nothing as no_total, total_status, with_counted}
 
@@ -71,38 +73,57 @@ abbrev pub given_kept : FileKind → Asking → Result (List ℕ) FileFault → 
 given_kept kind asking (Ok file) = record { counts = file_counts kind asking file; stands = false; fault = None }
 given_kept kind asking (Err fault) = fault_kept fault
 
+-- the keys on its key lines
+abbrev pub given_keys : FileKind → Result (List ℕ) FileFault → List (List ℕ)
+given_keys kind (Ok file) = file_keys kind file
+given_keys kind (Err fault) = []
+
+-- what is counted, and the keys of all files up to this one
+abbrev pub given_noted : FileKind → KeySet → Asking → Result (List ℕ) FileFault → FileNoted
+given_noted kind keys asking bytes = record { reported = given_kept kind asking bytes; keys = with_keys keys (given_keys kind bytes) }
+
+abbrev pub fault_noted : KeySet → FileFault → FileNoted
+fault_noted keys fault = record { reported = fault_kept fault; keys = keys }
+
 -- why there is no review of a file whose bytes could not be had
 abbrev pub fault_read : ReadError → UnreadCause → FileFault
 fault_read read.TooLong cause = TooLong
 fault_read e cause = Unread cause
 
--- this was appended to the sections and to the register, and this is counted
-abbrev pub IsReported : FileKind → ℕ → Asking → FileGiven → List ℕ → List ℕ → List ℕ → List ℕ → FileReported → Type 0
-IsReported kind number asking f sections after register later reported =
+-- after files of these keys this was appended to the sections and to the register, and this is counted
+abbrev pub IsReported : FileKind → ℕ → KeySet → Asking → FileGiven → List ℕ → List ℕ → List ℕ → List ℕ → FileNoted → Type 0
+IsReported kind number keys asking f sections after register later noted =
     (after ≡ sections ++ marks (section_by kind number asking f.name f.bytes))
     × (later ≡ register ++ marks (row_by kind number asking f.name f.bytes))
-    × (reported ≡ given_kept kind asking f.bytes)
+    × (noted ≡ given_noted kind keys asking f.bytes)
 
 -- ---- all files
 
--- the sections of some files, their rows in the register, and their total
+-- the sections of some files, their rows in the register, their total, and the keys on their key lines
 pub record PageSofar : Type 0 where
   pub sections : Document
   pub register : Document
   pub total : Total
+  pub keys : List (List ℕ)
 
 abbrev pub no_page : PageSofar
-no_page = record { sections = nothing; register = nothing; total = no_total }
+no_page = record { sections = nothing; register = nothing; total = no_total; keys = [] }
 
 -- with one more file, whose number is how many were before it
 abbrev pub with_given : ReviewKind → Asking → PageSofar → FileGiven → PageSofar
 with_given kind asking sofar f = record {
   sections = sofar.sections & section_by (file_kind kind) sofar.total.files asking f.name f.bytes;
   register = sofar.register & row_by (file_kind kind) sofar.total.files asking f.name f.bytes;
-  total = with_counted sofar.total (given_kept (file_kind kind) asking f.bytes).counts (given_kept (file_kind kind) asking f.bytes).fault;
+  total = with_counted sofar.total (distinct_keys (sofar.keys ++ given_keys (file_kind kind) f.bytes)) (given_kept (file_kind kind) asking f.bytes).counts (given_kept (file_kind kind) asking f.bytes).fault;
+  keys = sofar.keys ++ given_keys (file_kind kind) f.bytes;
 }
 
--- the same in marked text
+-- the files so far have the total of the other formats, and the same keys
+pub record CountsAs (page : PageSofar) (reported : Lines) : Type 0 where
+  pub total : page.total ≡ reported.total
+  pub keys : page.keys ≡ reported.keys
+
+-- the first three in marked text
 pub record PageMarks : Type 0 where
   pub sections : List ℕ
   pub register : List ℕ

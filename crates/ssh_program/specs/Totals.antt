@@ -6,7 +6,6 @@ use Rattle.ssh_review.specs.declared.end.FileFault.{FileFault}
 use Rattle.ssh_review.specs.declared.end.Total.{Total}
 use Rattle.ssh_review.specs.Counting.{no_counts, plus_within}
 use Rattle.ssh_review.specs.FaultCounts.{faults_with, no_faults}
-use Rattle.ssh_review.specs.Reviews.{Review}
 use Rattle.ssh_program.specs.ReviewFails.{fails_by}
 
 -- a sum of counts stops at 2^64 - 1
@@ -19,19 +18,17 @@ fault_count (Some fault) = 1
 
 -- the total before the first file
 abbrev pub nothing : Total
-nothing = record { files = 0; faults = 0; faults_by_code = no_faults; counts = no_counts }
+nothing = record { files = 0; faults = 0; faults_by_code = no_faults; counts = no_counts; distinct_keys = Some 0 }
 
--- the total with one more file, of these counts or with this fault
-abbrev pub with_counted : Total → Counts → Option FileFault → Total
-with_counted total counts fault = record {
+-- the total with one more file, of these counts or with this fault, where all files have so many different keys
+abbrev pub with_counted : Total → Option ℕ → Counts → Option FileFault → Total
+with_counted total keys counts fault = record {
   files = counted total.files 1;
   faults = counted total.faults (fault_count fault);
   faults_by_code = faults_with total.faults_by_code fault;
   counts = plus_within total.counts counts;
+  distinct_keys = keys;
 }
-
-abbrev pub with_review : Total → Review → Total
-with_review total r = with_counted total r.counts r.fault
 
 -- 2 if a file could not be reviewed, else 1 if a finding with one of these codes was reported
 abbrev pub total_status : List Code → Total → ℕ

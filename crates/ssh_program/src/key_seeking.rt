@@ -9,7 +9,7 @@ ghost use Rattle.ssh_program.specs.Account.{NoneFailed};
 ghost use Rattle.ssh_program.specs.ArgsView.{Spells};
 ghost use Rattle.ssh_program.specs.FileReviews.{FailedIfStopped, TextPut, TextWritten, TextsWritten};
 ghost use Rattle.ssh_program.specs.FingerprintValues.{is_fingerprint};
-ghost use Rattle.ssh_program.specs.KeySeeking.{ReviewsFor, SeeksBy, SeeksKey, SeeksKeyOfFile, key_review_kept, key_review_of, key_status, key_total, key_lines_before, or_key_fault, spelled_fingerprint, telling_key_review, with_key_file};
+ghost use Rattle.ssh_program.specs.KeySeeking.{ReviewsFor, SeeksBy, SeeksKey, SeeksKeyOfFile, key_review_kept, key_review_of, key_status, key_total, key_lines_before, one_key, or_key_fault, spelled_fingerprint, telling_key_review, with_key_file};
 ghost use Rattle.ssh_program.specs.Namings.{names_seen};
 ghost use Rattle.ssh_review.specs.FileNames.{file_head, name_seen};
 ghost use Rattle.ssh_program.specs.OfferPrints.{offer_print};
@@ -30,7 +30,9 @@ use ssh_files::{Files, read_top_line, read_whole};
 use ssh_findings::{Code, ReviewOptions};
 use ssh_keys::digest_text;
 use ssh_print::{DONE, FAULT, OfferedKey, read_offer, show_fault};
-use ssh_review::{FileName, Form, Show, Total, auth_key_records, file_head, known_key_records};
+use ssh_review::{
+    DistinctKeys, FileName, Form, Show, Total, auth_key_records, file_head, known_key_records,
+};
 use std::alloc::{AllocError, Global};
 
 /// The status: 2 if a file could not be reviewed, else 1 if the key stands in one of them.
@@ -53,6 +55,18 @@ pub struct KeyTotal {
     pub stands: bool,
 }
 
+/// How many different keys stand on key lines, of which all have the key that is sought: one, if
+/// there is such a line.
+fn one_key(lines: u64, more: u64) -> Option<u64>
+    ensures { result ≡ one_key lines more }
+{
+    if lines > 0 || more > 0 {
+        Some(1)
+    } else {
+        Some(0)
+    }
+}
+
 /// Whether the key stands in one of two parts.
 fn either(one: bool, other: bool) -> bool
     ensures { result ≡ (one || other) }
@@ -62,6 +76,7 @@ fn either(one: bool, other: bool) -> bool
 
 /// Writes the review for the key with this fingerprint, of a file of these bytes, each record of
 /// which begins with this head.
+/// Notes no key, since `one_key` counts the one that is sought.
 fn put_bytes_review<W: Sink>(
     alloc: Global,
     kind: ReviewKind,
@@ -70,6 +85,7 @@ fn put_bytes_review<W: Sink>(
     sought: &[u8; 43],
     head: &[u8],
     file: &[u8],
+    keys: &mut DistinctKeys,
     writer: &mut W,
 ) -> Result<FileReported, Stop>
     requires none { NoneFailed (W.account writer.old) }
@@ -82,11 +98,31 @@ fn put_bytes_review<W: Sink>(
     match kind {
         ReviewKind::Auth => {
             let records = auth_key_records(alloc, file, sought)?;
-            put_review(alloc, Show::All, form, asked, head, file, records, writer)
+            put_review(
+                alloc,
+                Show::All,
+                form,
+                asked,
+                head,
+                file,
+                records,
+                keys,
+                writer,
+            )
         }
         ReviewKind::Known => {
             let records = known_key_records(alloc, file, sought)?;
-            put_review(alloc, Show::All, form, asked, head, file, records, writer)
+            put_review(
+                alloc,
+                Show::All,
+                form,
+                asked,
+                head,
+                file,
+                records,
+                keys,
+                writer,
+            )
         }
     }
 }
@@ -111,7 +147,12 @@ fn put_headed<F: Files, W: Sink>(
         (F.source_state files.new) (W.account writer.old) (W.account writer.new) result }
 {
     match read_whole(alloc, files, name.path) {
-        Ok(file) => put_bytes_review(alloc, kind, form, asked, sought, head, &file, writer),
+        Ok(file) => {
+            let mut keys = DistinctKeys::new(alloc);
+            put_bytes_review(
+                alloc, kind, form, asked, sought, head, &file, &mut keys, writer,
+            )
+        }
         Err(fault) => {
             let cause = files.unread_cause(name.path);
             put_unread(alloc, form, head, fault, cause, writer)
@@ -164,7 +205,8 @@ fn tell_files<F: Files, W: Sink>(
     for word in names.words {
         let name = names.naming.name_of(word);
         let reported = put_file(alloc, kind, form, asked, sought, name, files, writer)?;
-        total = with_counted(total, reported.counts, reported.fault);
+        let keys = one_key(total.counts.keys, reported.counts.keys);
+        total = with_counted(total, keys, reported.counts, reported.fault);
         stands = either(stands, reported.stands);
     }
     Ok(KeyTotal { total, stands })

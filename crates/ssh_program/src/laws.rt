@@ -42,9 +42,9 @@ ghost use Rattle.ssh_program.specs.NameListSamples.{ListsNamed, NamesReported, W
 ghost use Rattle.ssh_program.specs.Samples.{HostValuesInOrder, LoginAsksMore, LoginSpelled, LoginValuesInOrder, ShowKinds, TextsOfFiles};
 ghost use Rattle.ssh_program.specs.ArgsSamples.{HostsAsked, KeyPlacesAsked, KeysAsked, LoginsAsked, OthersAsked, ReviewsAsked, TextsAsked, UsageReported, WordsRefused};
 ghost use Rattle.ssh_findings.specs.Asking.{Asking};
-ghost use Rattle.ssh_program.specs.FileReviews.{Lines, telling_review, with_file};
+ghost use Rattle.ssh_program.specs.FileReviews.{Lines, lines_before, telling_review, with_file};
 ghost use Rattle.ssh_review.specs.declared.show.Show.{Show as Shown};
-ghost use Rattle.ssh_program.specs.PageReviews.{PageSofar, telling_given, with_given};
+ghost use Rattle.ssh_program.specs.PageReviews.{CountsAs, PageSofar, no_page, telling_given, with_given};
 ghost use Rattle.ssh_program.specs.declared.review.ReviewKind.{ReviewKind};
 ghost use Rattle.ssh_program.specs.AnswerSamples.{AdmitsSpelled, FingerprintsRefused, OutcomesSummed, StatusesReported, TrustsSpelled};
 
@@ -174,17 +174,18 @@ fn fingerprints_as_read()
         → fingerprint_bytes (codes "SHA256:" ++ digest_text_of digest) ≡ Some digest }
 {}
 
-/// The total of a page is that of the other formats, file by file, so the status is: whatever a file
-/// gives, and where a read of it fails.
+/// The total of a page is that of the other formats, file by file, so the status is: before the first
+/// file, whatever a file gives, and where a read of it fails.
 fn page_total_rule()
+    ensures first { (form : Form) → CountsAs no_page (lines_before form) }
     ensures read { (kind : ReviewKind) (show : Shown) (form : Form) (asking : Asking) (page : PageSofar)
         (reported : Lines) (name : NameSeen) (given : Result (List ℕ) UnreadCause)
-        → page.total ≡ reported.total
-        → (with_given kind asking page (telling_given.of_bytes name given)).total
-        ≡ (with_file reported ((telling_review kind show form asking).of_bytes name given)).total }
+        → CountsAs page reported
+        → CountsAs (with_given kind asking page (telling_given.of_bytes name given))
+        (with_file reported ((telling_review kind show form asking).of_bytes name given)) }
     ensures failed { (kind : ReviewKind) (show : Shown) (form : Form) (asking : Asking) (page : PageSofar)
         (reported : Lines) (name : NameSeen) (cause : UnreadCause)
-        → page.total ≡ reported.total
-        → (with_given kind asking page (telling_given.of_fault name cause)).total
-        ≡ (with_file reported ((telling_review kind show form asking).of_fault name cause)).total }
+        → CountsAs page reported
+        → CountsAs (with_given kind asking page (telling_given.of_fault name cause))
+        (with_file reported ((telling_review kind show form asking).of_fault name cause)) }
 {}

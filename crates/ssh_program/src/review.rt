@@ -1,6 +1,6 @@
 //! The answer to `review`: trust files one after the other, then their total.
 
-ghost use Rattle.std.specs.Prelude.{◌≡◌, ◌^◌, ◌≤◌, Some, option_map, OnErr, length, map};
+ghost use Rattle.std.specs.Prelude.{◌≡◌, ◌^◌, ◌≤◌, Some, option_map, OnErr, OnOk, length, map};
 ghost use Rattle.ssh_findings.specs.Codes.{codes_in, default_codes};
 ghost use Rattle.ssh_files.specs.Values.{number_below};
 ghost use Rattle.ssh_review.specs.declared.end.Form.TheVariants.{Text};
@@ -13,7 +13,8 @@ ghost use Rattle.ssh_program.specs.Totals.{fault_count, nothing, total_status, w
 ghost use Rattle.ssh_findings.specs.Asking.{asking_of};
 ghost use Rattle.ssh_files.specs.SourceState.{IfTells};
 ghost use Rattle.ssh_program.specs.Account.{NoneFailed};
-ghost use Rattle.ssh_program.specs.FileReviews.{FailedIfStopped, ReviewsFiles, TextPut, TextWritten, TextsWritten, review_kept, file_kind, kind_name, lines_before, review_of, telling_review, with_file};
+ghost use Rattle.ssh_review.specs.DistinctKeys.{file_keys, with_keys};
+ghost use Rattle.ssh_program.specs.FileReviews.{FailedIfStopped, ReviewsFiles, TextPut, TextWritten, TextsWritten, file_kept, file_kind, kind_name, lines_before, review_kept, review_of, telling_review, told_of, with_file, with_noted};
 ghost use Rattle.ssh_program.specs.Namings.{names_seen};
 ghost use Rattle.ssh_review.specs.FileNames.{file_head, name_seen};
 ghost use Rattle.ssh_program.specs.Printing.{WritesAnswer};
@@ -38,8 +39,8 @@ use ssh_findings::{Code, ReviewOptions, parse_codes};
 use ssh_page::FileKind;
 use ssh_print::{DONE, FAULT};
 use ssh_review::{
-    Counts, FaultCounts, FileFault, FileName, Form, Show, Total, auth_records, file_head,
-    known_records,
+    Counts, DistinctKeys, FaultCounts, FileFault, FileName, Form, Show, Total, auth_records,
+    file_head, known_records,
 };
 use std::alloc::Global;
 
@@ -130,6 +131,7 @@ pub const NOTHING: Total = Total {
     faults: 0,
     faults_by_code: FaultCounts::NONE,
     counts: Counts::NONE,
+    distinct_keys: Some(0),
 };
 
 fn fault_count(fault: Option<FileFault>) -> u64
@@ -141,15 +143,40 @@ fn fault_count(fault: Option<FileFault>) -> u64
     }
 }
 
-/// The total with one more file, of these counts or with this fault.
-pub fn with_counted(total: Total, counts: Counts, fault: Option<FileFault>) -> Total
-    ensures { result ≡ with_counted total counts fault }
+/// The total with one more file, of these counts or with this fault, where all files have so many
+/// different keys.
+pub fn with_counted(
+    total: Total,
+    keys: Option<u64>,
+    counts: Counts,
+    fault: Option<FileFault>,
+) -> Total
+    ensures { result ≡ with_counted total keys counts fault }
 {
     Total {
         files: total.files.saturating_add(1),
         faults: total.faults.saturating_add(fault_count(fault)),
         faults_by_code: total.faults_by_code.with_fault(fault),
         counts: total.counts.plus(counts),
+        distinct_keys: keys,
+    }
+}
+
+/// What is kept of the review of a file, whose text is written, and the different keys of all files
+/// up to it.
+#[derive(Drop)]
+pub struct FileNoted {
+    pub reported: FileReported,
+    pub keys: DistinctKeys,
+}
+
+/// The same with these keys.
+fn with_noted(reported: Result<FileReported, Stop>, keys: DistinctKeys) -> Result<FileNoted, Stop>
+    ensures { result ≡ with_noted reported keys }
+{
+    match reported {
+        Ok(reported) => Ok(FileNoted { reported, keys }),
+        Err(stop) => Err(stop),
     }
 }
 
@@ -176,11 +203,13 @@ fn put_bytes_review<W: Sink>(
     asked: &ReviewOptions<'_>,
     head: &[u8],
     file: &[u8],
+    keys: &mut DistinctKeys,
     writer: &mut W,
 ) -> Result<FileReported, Stop>
     requires none { NoneFailed (W.account writer.old) }
     requires limit { length file.now ≤ file_limit }
     ensures failed { FailedIfStopped result (W.account writer.new) }
+    ensures noted { OnOk result (keys.new ≡ with_keys keys.old (file_keys (file_kind kind) file.now)) }
     ensures put { TextPut (review_of kind show form (asking_of asked.entry.now) head.now file.now).text
         (review_kept (review_of kind show form (asking_of asked.entry.now) head.now file.now))
         (W.account writer.old) (W.account writer.new) result }
@@ -188,13 +217,39 @@ fn put_bytes_review<W: Sink>(
     match kind {
         ReviewKind::Auth => {
             let records = auth_records(alloc, file)?;
-            put_review(alloc, show, form, asked, head, file, records, writer)
+            put_review(alloc, show, form, asked, head, file, records, keys, writer)
         }
         ReviewKind::Known => {
             let records = known_records(alloc, file)?;
-            put_review(alloc, show, form, asked, head, file, records, writer)
+            put_review(alloc, show, form, asked, head, file, records, keys, writer)
         }
     }
+}
+
+/// Writes the same, and notes the keys on the key lines of the file.
+fn put_noted<W: Sink>(
+    alloc: Global,
+    kind: ReviewKind,
+    show: Show,
+    form: Form,
+    asked: &ReviewOptions<'_>,
+    head: &[u8],
+    file: &[u8],
+    earlier: DistinctKeys,
+    writer: &mut W,
+) -> Result<FileNoted, Stop>
+    requires none { NoneFailed (W.account writer.old) }
+    requires limit { length file.now ≤ file_limit }
+    ensures failed { FailedIfStopped result (W.account writer.new) }
+    ensures put { TextPut (told_of kind show form (asking_of asked.entry.now) head.now file.now).text
+        (file_kept earlier (told_of kind show form (asking_of asked.entry.now) head.now file.now))
+        (W.account writer.old) (W.account writer.new) result }
+{
+    let mut keys = earlier;
+    let reported = put_bytes_review(
+        alloc, kind, show, form, asked, head, file, &mut keys, writer,
+    );
+    with_noted(reported, keys)
 }
 
 /// Writes the review of the file of this name, each record of which begins with this head.
@@ -206,21 +261,22 @@ fn put_headed<F: Files, W: Sink>(
     asked: &ReviewOptions<'_>,
     name: FileName<'_>,
     head: &[u8],
+    keys: DistinctKeys,
     files: &mut F,
     writer: &mut W,
-) -> Result<FileReported, Stop>
+) -> Result<FileNoted, Stop>
     requires none { NoneFailed (W.account writer.old) }
     requires head { head.now ≡ file_head form (name_seen name) }
     ensures failed { FailedIfStopped result (W.account writer.new) }
     ensures reported { TextWritten (telling_review kind show form (asking_of asked.entry.now)) (λ r. r.text)
-        review_kept (name_seen name.entry) (F.source_state files.old) (F.source_state files.new)
+        (file_kept keys) (name_seen name.entry) (F.source_state files.old) (F.source_state files.new)
         (W.account writer.old) (W.account writer.new) result }
 {
     match read_whole(alloc, files, name.path) {
-        Ok(file) => put_bytes_review(alloc, kind, show, form, asked, head, &file, writer),
+        Ok(file) => put_noted(alloc, kind, show, form, asked, head, &file, keys, writer),
         Err(fault) => {
             let cause = files.unread_cause(name.path);
-            put_unread(alloc, form, head, fault, cause, writer)
+            with_noted(put_unread(alloc, form, head, fault, cause, writer), keys)
         }
     }
 }
@@ -233,21 +289,25 @@ fn put_file<F: Files, W: Sink>(
     form: Form,
     asked: &ReviewOptions<'_>,
     name: FileName<'_>,
+    keys: DistinctKeys,
     files: &mut F,
     writer: &mut W,
-) -> Result<FileReported, Stop>
+) -> Result<FileNoted, Stop>
     requires { NoneFailed (W.account writer.old) }
     ensures failed { FailedIfStopped result (W.account writer.new) }
     ensures reported { TextWritten (telling_review kind show form (asking_of asked.entry.now)) (λ r. r.text)
-        review_kept (name_seen name.entry) (F.source_state files.old) (F.source_state files.new)
+        (file_kept keys) (name_seen name.entry) (F.source_state files.old) (F.source_state files.new)
         (W.account writer.old) (W.account writer.new) result }
 {
     let head = file_head(alloc, form, name)?;
-    put_headed(alloc, kind, show, form, asked, name, &head, files, writer)
+    put_headed(
+        alloc, kind, show, form, asked, name, &head, keys, files, writer,
+    )
 }
 
 /// Writes the reviews of the files of these names, one after the other, a table behind its header, and
-/// returns their total. In memory are one file, what is stored of its lines, and the records that are written next.
+/// returns their total. In memory are one file, what is stored of its lines, the records that are written next, and up to
+/// 65,536 fingerprints.
 fn tell_files<F: Files, W: Sink>(
     alloc: Global,
     kind: ReviewKind,
@@ -267,10 +327,13 @@ fn tell_files<F: Files, W: Sink>(
 {
     put_first_lines(form, writer)?;
     let mut total = NOTHING;
+    let mut keys = DistinctKeys::new(alloc);
     for word in names.words {
         let name = names.naming.name_of(word);
-        let reported = put_file(alloc, kind, show, form, asked, name, files, writer)?;
-        total = with_counted(total, reported.counts, reported.fault);
+        let noted = put_file(alloc, kind, show, form, asked, name, keys, files, writer)?;
+        let reported = noted.reported;
+        keys = noted.keys;
+        total = with_counted(total, keys.count(), reported.counts, reported.fault);
     }
     Ok(total)
 }

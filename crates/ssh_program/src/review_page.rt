@@ -9,18 +9,19 @@ ghost use Rattle.ssh_findings.specs.Asking.{asking_of};
 ghost use Rattle.ssh_page.specs.Documents.{marks};
 ghost use Rattle.ssh_page.specs.Expanding.{page};
 ghost use Rattle.ssh_review.specs.PageFiles.{unread_row, unread_section};
+ghost use Rattle.ssh_review.specs.DistinctKeys.{file_keys, with_keys};
 ghost use Rattle.ssh_text.specs.Text.{file_limit};
 ghost use Rattle.ssh_program.specs.Account.{NoneFailed};
 ghost use Rattle.ssh_program.specs.Namings.{names_seen};
 ghost use Rattle.ssh_review.specs.FileNames.{name_seen, shown_name};
-ghost use Rattle.ssh_program.specs.PageReviews.{FileGiven, IsReported, PageReported, ReviewsPage, fault_kept, fault_read, given_kept, made_response, page_rest, parts_response, parts_seen, row_by, section_by, telling_given};
+ghost use Rattle.ssh_program.specs.PageReviews.{FileGiven, IsReported, PageReported, ReviewsPage, fault_noted, fault_read, given_kept, given_noted, made_response, page_rest, parts_response, parts_seen, row_by, section_by, telling_given};
 ghost use Rattle.ssh_program.specs.FileReviews.{file_kind};
 ghost use Rattle.ssh_program.specs.Printing.{Breaks, TakesAll, WritesAnswer, WritesResponse};
 
 use crate::naming::ListedNames;
 use crate::page_front::front_of;
 use crate::printing::{put_bytes, put_no_memory};
-use crate::review::{NOTHING, ReviewKind, file_kind, total_status, with_counted};
+use crate::review::{FileNoted, NOTHING, ReviewKind, file_kind, total_status, with_counted};
 use crate::sink::Sink;
 use crate::streaming::FileReported;
 use arrayvec::ArrayVec;
@@ -32,7 +33,8 @@ use ssh_page::{
 };
 use ssh_print::FAULT;
 use ssh_review::{
-    Counts, FileFault, FileName, Total, push_page_fault, push_page_file, shown_name, total_words,
+    Counts, DistinctKeys, FileFault, FileName, Total, push_page_fault, push_page_file, shown_name,
+    total_words,
 };
 use std::alloc::{AllocError, Global};
 use std::io;
@@ -61,10 +63,12 @@ fn push_reviewed(
     asked: &ReviewOptions<'_>,
     name: &[u8],
     file: &[u8],
+    keys: &mut DistinctKeys,
     sections: &mut Vec<u8>,
     register: &mut Vec<u8>,
 ) -> Result<FileReported, AllocError>
     requires { length file.now ≤ file_limit }
+    ensures noted { OnOk result (keys.new ≡ with_keys keys.old (file_keys kind file.now)) }
     ensures section { OnOk result (sections.new.items ≡ sections.old.items
         ++ marks (section_by kind number (asking_of asked.entry.now) name.now (Ok file.now))) }
     ensures row { OnOk result (register.new.items ≡ register.old.items
@@ -72,7 +76,9 @@ fn push_reviewed(
     ensures kept { IfOk result
         (λ reported. reported ≡ given_kept kind (asking_of asked.entry.now) (Ok file.now)) }
 {
-    let counts = push_page_file(alloc, kind, number, asked, name, file, sections, register)?;
+    let counts = push_page_file(
+        alloc, kind, number, asked, name, file, keys, sections, register,
+    )?;
     Ok(FileReported {
         counts,
         stands: false,
@@ -80,26 +86,56 @@ fn push_reviewed(
     })
 }
 
-/// Appends what a file with a fault has on the page. Returns what is counted.
+/// Appends the same, and notes the keys on the key lines of the file.
+fn push_noted(
+    alloc: Global,
+    kind: FileKind,
+    number: u64,
+    asked: &ReviewOptions<'_>,
+    name: &[u8],
+    file: &[u8],
+    earlier: DistinctKeys,
+    sections: &mut Vec<u8>,
+    register: &mut Vec<u8>,
+) -> Result<FileNoted, AllocError>
+    requires { length file.now ≤ file_limit }
+    ensures section { OnOk result (sections.new.items ≡ sections.old.items
+        ++ marks (section_by kind number (asking_of asked.entry.now) name.now (Ok file.now))) }
+    ensures row { OnOk result (register.new.items ≡ register.old.items
+        ++ marks (row_by kind number (asking_of asked.entry.now) name.now (Ok file.now))) }
+    ensures kept { IfOk result (λ noted. noted
+        ≡ given_noted kind earlier (asking_of asked.entry.now) (Ok file.now)) }
+{
+    let mut keys = earlier;
+    let reported = push_reviewed(
+        alloc, kind, number, asked, name, file, &mut keys, sections, register,
+    )?;
+    Ok(FileNoted { reported, keys })
+}
+
+/// Appends what a file with a fault has on the page. Returns what is counted, and the keys of the
+/// files before it.
 fn push_fault(
     number: u64,
     name: &[u8],
     fault: FileFault,
+    keys: DistinctKeys,
     sections: &mut Vec<u8>,
     register: &mut Vec<u8>,
-) -> Result<FileReported, AllocError>
+) -> Result<FileNoted, AllocError>
     ensures section { OnOk result
         (sections.new.items ≡ sections.old.items ++ marks (unread_section number name.now fault)) }
     ensures row { OnOk result
         (register.new.items ≡ register.old.items ++ marks (unread_row number name.now fault)) }
-    ensures kept { IfOk result (λ reported. reported ≡ fault_kept fault) }
+    ensures kept { IfOk result (λ noted. noted ≡ fault_noted keys fault) }
 {
     push_page_fault(number, name, fault, sections, register)?;
-    Ok(FileReported {
+    let reported = FileReported {
         counts: Counts::NONE,
         stands: false,
         fault: Some(fault),
-    })
+    };
+    Ok(FileNoted { reported, keys })
 }
 
 /// Appends what a file has on the page whose bytes could not be had. Returns what is counted.
@@ -108,20 +144,35 @@ fn push_unread(
     name: &[u8],
     fault: ReadError,
     cause: UnreadCause,
+    keys: DistinctKeys,
     sections: &mut Vec<u8>,
     register: &mut Vec<u8>,
-) -> Result<FileReported, AllocError>
+) -> Result<FileNoted, AllocError>
     ensures memory { OnOk result (fault ≢ read.Memory) }
     ensures section { OnOk result (sections.new.items
         ≡ sections.old.items ++ marks (unread_section number name.now (fault_read fault cause))) }
     ensures row { OnOk result (register.new.items
         ≡ register.old.items ++ marks (unread_row number name.now (fault_read fault cause))) }
-    ensures kept { IfOk result (λ reported. reported ≡ fault_kept (fault_read fault cause)) }
+    ensures kept { IfOk result (λ noted. noted ≡ fault_noted keys (fault_read fault cause)) }
 {
     match fault {
         ReadError::Memory => Err(AllocError),
-        ReadError::TooLong => push_fault(number, name, FileFault::TooLong, sections, register),
-        _ => push_fault(number, name, FileFault::Unread(cause), sections, register),
+        ReadError::TooLong => push_fault(
+            number,
+            name,
+            FileFault::TooLong,
+            keys,
+            sections,
+            register,
+        ),
+        _ => push_fault(
+            number,
+            name,
+            FileFault::Unread(cause),
+            keys,
+            sections,
+            register,
+        ),
     }
 }
 
@@ -133,21 +184,24 @@ fn tell_shown<F: Files>(
     asked: &ReviewOptions<'_>,
     name: FileName<'_>,
     shown: &[u8],
+    keys: DistinctKeys,
     files: &mut F,
     sections: &mut Vec<u8>,
     register: &mut Vec<u8>,
-) -> Result<FileReported, AllocError>
+) -> Result<FileNoted, AllocError>
     requires { shown.now ≡ shown_name (name_seen name) }
-    ensures { IfOk result (λ reported. (given : FileGiven)
+    ensures { IfOk result (λ noted. (given : FileGiven)
         × IfTells (F.source_state files.old) (λ s. TellsFile telling_given (name_seen name.entry) s (F.source_state files.new) given)
-        × IsReported kind number (asking_of asked.entry.now) given sections.old.items sections.new.items
-        register.old.items register.new.items reported) }
+        × IsReported kind number keys (asking_of asked.entry.now) given sections.old.items sections.new.items
+        register.old.items register.new.items noted) }
 {
     match read_whole(alloc, files, name.path) {
-        Ok(file) => push_reviewed(alloc, kind, number, asked, shown, &file, sections, register),
+        Ok(file) => push_noted(
+            alloc, kind, number, asked, shown, &file, keys, sections, register,
+        ),
         Err(fault) => {
             let cause = files.unread_cause(name.path);
-            push_unread(number, shown, fault, cause, sections, register)
+            push_unread(number, shown, fault, cause, keys, sections, register)
         }
     }
 }
@@ -160,23 +214,24 @@ fn tell_file<F: Files>(
     number: u64,
     asked: &ReviewOptions<'_>,
     name: FileName<'_>,
+    keys: DistinctKeys,
     files: &mut F,
     sections: &mut Vec<u8>,
     register: &mut Vec<u8>,
-) -> Result<FileReported, AllocError>
-    ensures { IfOk result (λ reported. (given : FileGiven)
+) -> Result<FileNoted, AllocError>
+    ensures { IfOk result (λ noted. (given : FileGiven)
         × IfTells (F.source_state files.old) (λ s. TellsFile telling_given (name_seen name.entry) s (F.source_state files.new) given)
-        × IsReported kind number (asking_of asked.entry.now) given sections.old.items sections.new.items
-        register.old.items register.new.items reported) }
+        × IsReported kind number keys (asking_of asked.entry.now) given sections.old.items sections.new.items
+        register.old.items register.new.items noted) }
 {
     let shown = shown_name(alloc, name)?;
     tell_shown(
-        alloc, kind, number, asked, name, &shown, files, sections, register,
+        alloc, kind, number, asked, name, &shown, keys, files, sections, register,
     )
 }
 
-/// What the files of these names have on the page, one after the other. In memory are the marked text
-/// and one file.
+/// What the files of these names have on the page, one after the other. In memory are the marked text,
+/// one file, and up to 65,536 fingerprints.
 fn tell_files<F: Files>(
     alloc: Global,
     kind: ReviewKind,
@@ -191,19 +246,23 @@ fn tell_files<F: Files>(
     let mut sections = Vec::new(alloc);
     let mut register = Vec::new(alloc);
     let mut total = NOTHING;
+    let mut keys = DistinctKeys::new(alloc);
     for word in names.words {
         let name = names.naming.name_of(word);
-        let reported = tell_file(
+        let noted = tell_file(
             alloc,
             file_kind(kind),
             total.files,
             asked,
             name,
+            keys,
             files,
             &mut sections,
             &mut register,
         )?;
-        total = with_counted(total, reported.counts, reported.fault);
+        let reported = noted.reported;
+        keys = noted.keys;
+        total = with_counted(total, keys.count(), reported.counts, reported.fault);
     }
     Ok(PageParts {
         sections,

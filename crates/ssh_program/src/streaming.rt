@@ -7,7 +7,7 @@ ghost use Rattle.ssh_findings.specs.Asking.{asking_of};
 ghost use Rattle.ssh_review.specs.declared.key_review.KeyCounts.{KeyCounts as KeyCountsValue};
 ghost use Rattle.ssh_review.specs.Forms.{end_line, total_line};
 ghost use Rattle.ssh_review.specs.declared.records.RecordForm.TheVariants.{AsLines};
-ghost use Rattle.ssh_review.specs.Making.{HasLeft};
+ghost use Rattle.ssh_review.specs.Making.{HasLeft, keys_left};
 ghost use Rattle.ssh_review.specs.Reviews.{fault_review};
 ghost use Rattle.ssh_review.specs.ShownRecords.{shown_end};
 ghost use Rattle.ssh_program.specs.declared.streaming.Stop.TheVariants.{Memory, Write};
@@ -23,8 +23,8 @@ use sha2::{Digest, Sha256};
 use ssh_files::{ReadError, UnreadCause};
 use ssh_findings::ReviewOptions;
 use ssh_review::{
-    Counts, FileFault, Form, LineRecords, RecordForm, Records, Show, Total, first_lines, push_end,
-    review_fault, total_line,
+    Counts, DistinctKeys, FileFault, Form, LineRecords, RecordForm, Records, Show, Total,
+    first_lines, push_end, review_fault, total_line,
 };
 use std::alloc::{AllocError, Global};
 use std::io::Error;
@@ -94,7 +94,7 @@ fn push_shown_end(
 }
 
 /// Writes the review of a file: its records, as they are made, and its end, where they are shown.
-/// Where memory is refused, what was written are whole records, and the end is missing.
+/// Notes the keys of its lines. Where memory is refused, what was written are whole records, and the end is missing.
 pub(crate) fn put_review<L: LineRecords + Drop, W: Sink>(
     alloc: Global,
     show: Show,
@@ -103,10 +103,12 @@ pub(crate) fn put_review<L: LineRecords + Drop, W: Sink>(
     head: &[u8],
     file: &[u8],
     begun: Records<'_, L>,
+    keys: &mut DistinctKeys,
     writer: &mut W,
 ) -> Result<FileReported, Stop>
     requires { NoneFailed (W.account writer.old) }
     ensures failed { FailedIfStopped result (W.account writer.new) }
+    ensures noted { OnOk result (keys.new ≡ keys_left L.keys_on begun.entry keys.old) }
     ensures put { (text : List ℕ) (all : KeyCountsValue)
         → HasLeft L.tells show (AsLines form) (asking_of asked.entry.now) head.now file.now text all begun.entry
         → TextPut (text ++ shown_end show (end_line form head.now all.counts (sha256 file.now)))
@@ -121,6 +123,7 @@ pub(crate) fn put_review<L: LineRecords + Drop, W: Sink>(
         RecordForm::AsLines(form),
         asked,
         head,
+        keys,
         &mut out,
     )? {
         put_lines(writer, &out)?;

@@ -1,5 +1,5 @@
 -- The end of a file and the total are one line each as JSON objects.
-use Rattle.ssh_review.proofs.Imports.{◌≡◌, ℕ, pos, true, List, [], ◌∷◌, refl, codes, flat_map, Code, Asking, code_text, AreBytes, AreBytesIfAny, are_printable, is_line, Counts, FileFault, Unread, TooLong, Total, no_counts, fault_code}
+use Rattle.ssh_review.proofs.Imports.{◌≡◌, ℕ, pos, true, List, [], ◌∷◌, refl, codes, flat_map, Option, Some, None, Code, Asking, code_text, AreBytes, AreBytesIfAny, are_printable, is_line, Counts, FileFault, Unread, TooLong, Total, no_counts, fault_code}
 use Rattle.ssh_review.proofs.DateTextLemmas.{date-printable}
 use Rattle.ssh_review.proofs.FieldLemmas.{any-text-printable, count-printable, null-printable, number-printable, object-printable, said-printable, text-printable}
 use Rattle.ssh_review.proofs.FoundLemmas.{found-printable}
@@ -13,21 +13,25 @@ use Rattle.ssh_files.specs.declared.files.UnreadCause.TheVariants.{IsADirectory,
 use Rattle.ssh_review.specs.Ends.{asked_by, cause_words}
 use Rattle.ssh_review.specs.FaultCounts.{faults_object}
 use Rattle.ssh_review.specs.declared.fault_counts.FaultCounts.{FaultCounts}
-use Rattle.ssh_review.specs.Fields.{array_field}
-use Rattle.ssh_review.specs.EndObjects.{code_element, counts_fields, end_head, end_object, fault_object, review_fields, total_counts, total_object, why_field}
+use Rattle.ssh_review.specs.Fields.{array_field, number_or_null}
+use Rattle.ssh_review.specs.EndObjects.{code_element, counts_fields, end_head, end_object, fault_object, found_fields, line_fields, review_fields, total_counts, total_object, why_field}
 
 head-printable : (name : List ℕ) → ArePrintable name → ArePrintable (end_head name)
 unfolding end_head
 head-printable name h =
     join h (said-printable (codes "what") refl (word (codes "end") refl))
 
+lines-printable : (c : Counts) → ArePrintable (line_fields c)
+unfolding line_fields
+lines-printable c = join (number-printable (codes "lines") c.lines refl) (number-printable (codes "key_lines") c.keys refl)
+
+finds-printable : (c : Counts) → ArePrintable (found_fields c)
+unfolding found_fields
+finds-printable c = join (number-printable (codes "unreadable") c.unreadable refl) (number-printable (codes "findings") c.findings refl)
+
 counts-printable : (c : Counts) → ArePrintable (counts_fields c)
 unfolding counts_fields
-counts-printable c =
-    let lines = number-printable (codes "lines") c.lines refl in
-    let keys = number-printable (codes "key_lines") c.keys refl in
-    let unreadable = number-printable (codes "unreadable") c.unreadable refl in
-    join (join (join lines keys) unreadable) (number-printable (codes "findings") c.findings refl)
+counts-printable c = join (lines-printable c) (finds-printable c)
 
 pub end-line : (name : List ℕ) (counts : Counts) (digest : List ℕ) → ArePrintable name → AreBytes digest → is_line (end_object name counts digest) ≡ true
 unfolding end_object
@@ -94,13 +98,18 @@ faults-printable counts =
     let long = count-printable (codes "A7") counts.too_long refl in
     object-printable (codes "faults_by_code") _ refl (join long (count-printable (codes "A9") counts.unread refl))
 
+distinct-printable : (keys : Option ℕ) → ArePrintable (number_or_null (codes "distinct_keys") keys)
+distinct-printable None = null-printable (codes "distinct_keys") refl
+distinct-printable (Some keys) = number-printable (codes "distinct_keys") keys refl
+
 total-counts-printable : (t : Total) → ArePrintable (total_counts t)
 unfolding total_counts
 total-counts-printable t =
     let files = number-printable (codes "files") t.files refl in
     let faults = number-printable (codes "faults") t.faults refl in
     let by_code = join (join files faults) (faults-printable t.faults_by_code) in
-    join (join by_code (counts-printable t.counts)) (found-printable t.counts.by_code)
+    let keys = join (join by_code (lines-printable t.counts)) (distinct-printable t.distinct_keys) in
+    join (join keys (finds-printable t.counts)) (found-printable t.counts.by_code)
 
 pub total-line : (kind zone : List ℕ) (asking : Asking) (t : Total) → AreBytes kind → AreBytes zone → is_line (total_object kind zone asking t) ≡ true
 unfolding total_object total_head

@@ -1,5 +1,5 @@
 -- How often each code was found is printed in lines of printable ASCII.
-use Rattle.ssh_review.proofs.Imports.{◌≡◌, ◌++◌, ℕ, nat_lt, Bool, true, false, cond, List, [], ◌∷◌, refl, codes, flat_map, decimal, Code, code_text}
+use Rattle.ssh_review.proofs.Imports.{◌++◌, ℕ, nat_lt, Bool, true, false, cond, List, [], ◌∷◌, refl, codes, flat_map, decimal, Code, code_text}
 use Rattle.ssh_findings.specs.CodeCounts.{number_of}
 use Rattle.ssh_findings.specs.Codes.{all_codes}
 use Rattle.ssh_findings.specs.Urgency.{how_soon, same_urgency}

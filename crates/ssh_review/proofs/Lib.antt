@@ -8,6 +8,7 @@ pub mod MemoryLemmas
 pub mod DigestLemmas
 pub mod ShownLemmas
 pub mod TextLemmas
+pub mod DistinctLemmas
 pub mod EndLemmas
 pub mod EndWordLemmas
 pub mod RecordLemmas

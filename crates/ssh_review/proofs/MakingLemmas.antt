@@ -9,6 +9,9 @@ use Rattle.std.specs.Prelude.{if◌then◌else◌, length, take}
 use Rattle.ssh_review.specs.Counting.{plus_within}
 use Rattle.ssh_review.specs.KeyReviews.{reviewed_by}
 use Rattle.ssh_review.specs.Making.{AreCounts, IsWrittenInLines, AreWholeLines, HasLeft, IsAllMade, MakesFront, lines_left}
+use Rattle.ssh_review.specs.DistinctKeys.{KeySet, with_keys}
+use Rattle.ssh_review.proofs.DistinctLemmas.{with-both}
+use Rattle.std.specs.List.{flat_map}
 use Rattle.ssh_review.specs.declared.key_review.KeyCounts.{KeyCounts}
 use Rattle.ssh_review.specs.declared.records.Records.{Records}
 use Rattle.ssh_review.specs.declared.show.Show.{Show}
@@ -223,3 +226,21 @@ all-appended tells show form asking name file text before after all old new p ov
 -- and the end of the file
 pub whole-made : (form : Form) (name file text made : List ℕ) (all reported : KeyCounts) → made ≡ text → reported ≡ all → reviewed_by form name file made reported ≡ reviewed_by form name file text all
 whole-made form name file text made all reported is counted = ap (λ (t : List ℕ). reviewed_by form name file t reported) is ∙ ap (reviewed_by form name file text) counted
+
+-- ---- the keys that are noted
+
+abbrev pub keys_of : (List ℕ → List (List ℕ)) → KeySet → List (ℕ × List ℕ) → KeySet
+keys_of keys_on keys lines = with_keys keys (flat_map (λ line. keys_on line.1) lines)
+
+pub keys-next : (keys_on : List ℕ → List (List ℕ)) (line : ℕ × List ℕ) (left rest : List (ℕ × List ℕ)) (before after : KeySet) → left ≡ line ∷ rest
+    → after ≡ with_keys before (keys_on line.1) → keys_of keys_on after rest ≡ keys_of keys_on before left
+keys-next keys_on line left rest before after steps noted =
+    ap (λ (s : KeySet). keys_of keys_on s rest) noted
+    ∙ (with-both before (keys_on line.1) (flat_map (λ (line : ℕ × List ℕ). keys_on line.1) rest)
+    ∙ ap (keys_of keys_on before) (sym steps))
+
+pub keys-same : (keys_on : List ℕ → List (List ℕ)) (old new : List (ℕ × List ℕ)) (keys : KeySet) → old ≡ [] → new ≡ [] → keys_of keys_on keys new ≡ keys_of keys_on keys old
+keys-same keys_on old new keys before after = ap (keys_of keys_on keys) (after ∙ sym before)
+
+pub keys-over : (keys_on : List ℕ → List (List ℕ)) (left : List (ℕ × List ℕ)) (keys all : KeySet) → left ≡ [] → keys_of keys_on keys left ≡ all → keys ≡ all
+keys-over keys_on left keys all none h = ap (keys_of keys_on keys) (sym none) ∙ h

@@ -1,8 +1,7 @@
 -- Whoever is let in by a file has a row in its section of the page.
-use Rattle.ssh_review.proofs.Imports.{◌≡◌, ◌∙◌, ◌-◌, ◌++◌, ℕ, List, [], Option, Some, ap, sym, AsRow, Text, lines_of, numbered, AuthEntry, Entry, KnownEntry, Signed, LoginClaim, HostClaim, Rights, Reason, Decision, Granted, Asking, line-of, IsListed, IsHostListed}
+use Rattle.ssh_review.proofs.Imports.{◌≡◌, ◌∙◌, ◌-◌, ◌++◌, ℕ, List, [], Option, ap, sym, AsRow, Text, lines_of, numbered, Entry, Signed, LoginClaim, HostClaim, Rights, Reason, Granted, Asking, line-of, IsListed, IsHostListed}
 use Rattle.std.proofs.lemmas.List.Concat.{flat_map-append}
 use Rattle.ssh_entries.specs.declared.known_line.KnownLine.TheVariants as known
-use Rattle.ssh_page.specs.declared.file.FileKind.TheVariants.{AuthorizedKeys, KnownHosts}
 use Rattle.ssh_page.specs.Documents.{marks}
 use Rattle.ssh_page.specs.Expanding.{mark_html, page}
 use Rattle.ssh_trust.proofs.CandidateLemmas.{AreBytes}
@@ -11,7 +10,6 @@ use Rattle.ssh_trust.specs.LoginDecision.{login_decision}
 use Rattle.ssh_review.specs.HostListing.{kept_before}
 use Rattle.ssh_review.specs.HostRows.{host_line_row, host_rows_of}
 use Rattle.ssh_review.specs.Listing.{entries_before}
-use Rattle.ssh_review.specs.PageFiles.{file_rows}
 use Rattle.ssh_review.specs.PageListing.{HasHostRow, HasRow, IsPartOf}
 use Rattle.ssh_review.specs.Rows.{line_row, rows_of}
 use Rattle.ssh_review.proofs.HostListingLemmas as hosts

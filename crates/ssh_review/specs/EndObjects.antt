@@ -8,7 +8,7 @@ use Rattle.ssh_findings.specs.declared.code.Code.{Code}
 use Rattle.ssh_review.specs.Asked.{asked_fields, total_head}
 use Rattle.ssh_review.specs.FaultCounts.{faults_object}
 use Rattle.ssh_review.specs.Found.{found_object}
-use Rattle.ssh_review.specs.Fields.{array_field, null_field, number_field, text_field}
+use Rattle.ssh_review.specs.Fields.{array_field, null_field, number_field, number_or_null, text_field}
 use Rattle.ssh_print.specs.Strings.{json_text}
 use Rattle.ssh_review.specs.declared.end.Counts.{Counts}
 use Rattle.ssh_review.specs.declared.end.FileFault.{FileFault}
@@ -20,10 +20,14 @@ use Rattle.ssh_review.specs.Ends.{asked_by, cause_words, fault_code}
 unfoldable pub end_head : List ℕ → List ℕ
 end_head head = head ++ text_field (codes "what") (codes "end")
 
+unfoldable pub line_fields : Counts → List ℕ
+line_fields c = number_field (codes "lines") c.lines ++ number_field (codes "key_lines") c.keys
+
+unfoldable pub found_fields : Counts → List ℕ
+found_fields c = number_field (codes "unreadable") c.unreadable ++ number_field (codes "findings") c.findings
+
 unfoldable pub counts_fields : Counts → List ℕ
-counts_fields c =
-    number_field (codes "lines") c.lines ++ number_field (codes "key_lines") c.keys
-    ++ number_field (codes "unreadable") c.unreadable ++ number_field (codes "findings") c.findings
+counts_fields c = line_fields c ++ found_fields c
 
 -- the end of a file, with the SHA-256 of its bytes
 unfoldable pub end_object : List ℕ → Counts → List ℕ → List ℕ
@@ -52,9 +56,11 @@ review_fields kind asking =
     text_field (codes "kind") kind ++ number_field (codes "rsa_minimum") asking.rsa_minimum
     ++ array_field (codes "told") (flat_map code_element asking.reported)
 
+-- `distinct_keys` is `null` where there are more than 65,536
 unfoldable pub total_counts : Total → List ℕ
 total_counts t =
-    number_field (codes "files") t.files ++ number_field (codes "faults") t.faults ++ faults_object t.faults_by_code ++ counts_fields t.counts
+    number_field (codes "files") t.files ++ number_field (codes "faults") t.faults ++ faults_object t.faults_by_code
+    ++ line_fields t.counts ++ number_or_null (codes "distinct_keys") t.distinct_keys ++ found_fields t.counts
     ++ found_object t.counts.by_code
 
 -- how the review was asked, and what was counted in all files

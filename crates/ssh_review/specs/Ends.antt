@@ -1,5 +1,5 @@
 -- The end of a file and the total, as text (this project's rule).
-use Rattle.std.specs.Prelude.{◌++◌, ℕ, List, [], Some, codes}
+use Rattle.std.specs.Prelude.{◌++◌, ℕ, List, [], Option, Some, None, codes}
 use Rattle.std.specs.Fmt.{decimal}
 use Rattle.ssh_files.specs.declared.files.UnreadCause.{UnreadCause}
 use Rattle.ssh_files.specs.declared.files.UnreadCause.TheVariants.{IsADirectory, NotFound, Other, PermissionDenied}
@@ -16,10 +16,14 @@ use Rattle.ssh_review.specs.declared.end.Total.{Total}
 abbrev pub count_text : ℕ → List ℕ → List ℕ
 count_text number what = decimal number ++ what
 
+abbrev pub lines_text : Counts → List ℕ
+lines_text c = count_text c.lines (codes " lines, ") ++ count_text c.keys (codes " key lines, ")
+
+abbrev pub found_text : Counts → List ℕ
+found_text c = count_text c.unreadable (codes " unreadable, ") ++ count_text c.findings (codes " findings")
+
 abbrev pub counts_text : Counts → List ℕ
-counts_text c =
-    count_text c.lines (codes " lines, ") ++ count_text c.keys (codes " key lines, ")
-    ++ count_text c.unreadable (codes " unreadable, ") ++ count_text c.findings (codes " findings")
+counts_text c = lines_text c ++ found_text c
 
 -- the counts of a file, and the SHA-256 of its bytes
 abbrev pub end_words : Counts → List ℕ → List ℕ
@@ -57,11 +61,16 @@ fault_text head fault = head ++ codes ": " ++ fault_words fault ++ codes "\n"
 abbrev pub asked_by : List ℕ → Asking → Asked
 asked_by zone asking = record { now = asking.now; zone = Some zone }
 
+-- how many different keys stand on the key lines of all files
+abbrev pub distinct_words : Option ℕ → List ℕ
+distinct_words None = codes "more than 65536 distinct keys, "
+distinct_words (Some keys) = count_text keys (codes " distinct keys, ")
+
 -- the total of all files in words, and when it was asked
 abbrev pub total_words : List ℕ → Asking → Total → List ℕ
 total_words zone asking t =
     codes "total: " ++ count_text t.files (codes " files, ") ++ count_text t.faults (codes " faults, ")
-    ++ counts_text t.counts ++ codes ", " ++ asked_words (asked_by zone asking)
+    ++ lines_text t.counts ++ distinct_words t.distinct_keys ++ found_text t.counts ++ codes ", " ++ asked_words (asked_by zone asking)
 
 -- how often each code was found in all files, and the line of their total
 abbrev pub total_text : List ℕ → Asking → Total → List ℕ

@@ -2,6 +2,7 @@ pub mod Counting
 pub mod Records
 pub mod Ends
 pub mod FaultCounts
+pub mod DistinctKeys
 pub mod EndObjects
 pub mod RowPlaces
 pub mod Forms

@@ -19,6 +19,8 @@ use Rattle.ssh_review.specs.declared.records.RecordForm.{RecordForm}
 use Rattle.ssh_review.specs.declared.records.RecordForm.TheVariants.{AsLines, AsRow}
 use Rattle.ssh_review.specs.declared.records.Records.{Records}
 use Rattle.ssh_review.specs.declared.show.Show.{Show}
+use Rattle.std.specs.List.{flat_map}
+use Rattle.ssh_review.specs.DistinctKeys.{KeySet, with_keys}
 use Rattle.ssh_review.specs.HostLines.{host_kept_lines}
 use Rattle.ssh_review.specs.HostMemory.{host_line_bytes, host_line_spelling, host_line_sum, over_lines}
 use Rattle.ssh_review.specs.KeyRecords.{plus_key}
@@ -101,6 +103,10 @@ pub record HasLeft {S : Type 0} (tells : S → RecordForm → Asking → List �
   pub are_records : text ≡ shown_records show more
   pub sum : all ≡ plus_key r.reported (report_counts more)
   pub fits : AreCounts all.counts
+
+-- with the keys of the lines whose records are not made yet
+abbrev pub keys_left : {S : Type 0} → (List ℕ → List (List ℕ)) → Records S → KeySet → KeySet
+keys_left keys_on r keys = with_keys keys (flat_map (λ line. keys_on line.1) (lines_left r))
 
 -- From one state of a review to a later one: whatever text was left, what was appended to this is its front, in whole lines if
 -- the records are lines, and the rest of it is left.

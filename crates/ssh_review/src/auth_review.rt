@@ -13,7 +13,9 @@ ghost use Rattle.ssh_findings.specs.Memory.{bytes_kept, keys_kept};
 ghost use Rattle.ssh_review.specs.declared.records.RecordForm.{RecordForm as RecordFormValue};
 ghost use Rattle.ssh_review.specs.declared.show.Show.{Show as ShowValue};
 ghost use Rattle.ssh_review.specs.Lines.{counts_of, held_by_line, lets_in, line_counts, line_findings, line_record, shadow_line};
-ghost use Rattle.ssh_review.specs.Making.{AuthTells, HasLeft};
+ghost use Rattle.ssh_review.specs.Making.{AuthTells, HasLeft, lines_left};
+ghost use Rattle.ssh_page.specs.declared.file.FileKind.TheVariants.{AuthorizedKeys};
+ghost use Rattle.ssh_review.specs.DistinctKeys.{auth_line_keys, line_keys, with_keys};
 ghost use Rattle.ssh_review.specs.Objects.{entry_in};
 ghost use Rattle.ssh_review.specs.Memory.{line_bytes};
 ghost use Rattle.ssh_review.specs.Ends.{total_words};
@@ -22,6 +24,7 @@ ghost use Rattle.ssh_review.specs.Reviews.{auth_review, fault_review, review};
 ghost use Rattle.ssh_review.specs.ShownRecords.{shown_records};
 ghost use Rattle.ssh_review.specs.LineReports.{line_reports_of, of_all};
 
+use crate::distinct_keys::DistinctKeys;
 use crate::end::{
     Counts, FileFault, Form, Reviewed, Total, push_end_object, push_end_text, push_fault_object,
     push_fault_text, push_total_object, push_total_text, push_total_words,
@@ -76,6 +79,21 @@ fn push_entry_fields(
     )
 }
 
+/// Notes the key of an entry with these facts.
+#[tactic(auto, unfolding(ssh_findings::specs::Facts::facts_of))]
+fn note_entry(
+    asked: &ReviewOptions<'_>,
+    entry: &AuthEntryView<'_>,
+    facts: &Facts,
+    keys: &mut DistinctKeys,
+) -> Result<(), AllocError>
+    requires { facts.now ≡ facts_of (asking_of asked.now).zone entry.now }
+    ensures { OnOk result
+        (keys.new ≡ with_keys keys.old (auth_line_keys (AuthLine.Entry entry.now))) }
+{
+    keys.note(facts.fingerprint)
+}
+
 /// Appends the record of an entry, and stores what later lines need of the entry.
 pub(crate) fn push_entry_line(
     alloc: Global,
@@ -84,6 +102,7 @@ pub(crate) fn push_entry_line(
     place: &LineRef<'_>,
     entry: &AuthEntryView<'_>,
     earlier: &mut Earlier,
+    keys: &mut DistinctKeys,
     out: &mut Vec<u8>,
 ) -> Result<Counts, AllocError>
     ensures text { OnOk result ((held : List Held) → RemembersEntries earlier.old held
@@ -96,6 +115,8 @@ pub(crate) fn push_entry_line(
         (asking_of asked.entry.now) (place.entry.now.number, AuthLine.Entry entry.now))) }
     ensures bytes { OnOk result (bytes_kept earlier.new
         ≤ bytes_kept earlier.old + line_bytes (asking_of asked.entry.now) (AuthLine.Entry entry.now)) }
+    ensures noted { OnOk result
+        (keys.new ≡ with_keys keys.old (auth_line_keys (AuthLine.Entry entry.now))) }
     ensures keys { IfOk result
         (λ counts. keys_kept earlier.new ≤ keys_kept earlier.old + counts.keys) }
 {
@@ -119,6 +140,7 @@ pub(crate) fn push_entry_line(
             push_entry_row(alloc, out, row_place(file, place.number), &facts, &found)?;
         }
     }
+    note_entry(asked, entry, &facts, keys)?;
     earlier.keep(alloc, place.number, entry.blob(), facts)?;
     Ok(Counts {
         lines: 1,
@@ -178,6 +200,7 @@ fn push_line(
     line: &[u8],
     view: &AuthLineView<'_>,
     earlier: &mut Earlier,
+    keys: &mut DistinctKeys,
     out: &mut Vec<u8>,
 ) -> Result<Counts, AllocError>
     ensures text { OnOk result ((held : List Held) → RemembersEntries earlier.old held
@@ -190,13 +213,15 @@ fn push_line(
         (asking_of asked.entry.now) (place.entry.now.number, line_seen view.now))) }
     ensures bytes { OnOk result (bytes_kept earlier.new
         ≤ bytes_kept earlier.old + line_bytes (asking_of asked.entry.now) (line_seen view.now)) }
+    ensures noted { OnOk result
+        (keys.new ≡ with_keys keys.old (auth_line_keys (line_seen view.now))) }
     ensures keys { IfOk result
         (λ counts. keys_kept earlier.new ≤ keys_kept earlier.old + counts.keys) }
 {
     match view {
         AuthLineView::Blank | AuthLineView::Comment => Ok(Counts::LINE_ALONE),
         AuthLineView::Entry(entry) => push_entry_line(
-            alloc, form, asked, place, entry, earlier, out,
+            alloc, form, asked, place, entry, earlier, keys, out,
         ),
         AuthLineView::Unreadable(cause) => {
             push_unreadable_line(alloc, form, asked, place, line, *cause, out)
@@ -207,6 +232,8 @@ fn push_line(
 impl LineRecords for Earlier {
     ghost tells = { AuthTells };
 
+    ghost keys_on = { line_keys AuthorizedKeys };
+
     fn push_record(
         &mut self,
         alloc: Global,
@@ -215,10 +242,11 @@ impl LineRecords for Earlier {
         place: &LineRef<'_>,
         line: &[u8],
         buffer: &mut KeyBuffer,
+        keys: &mut DistinctKeys,
         out: &mut Vec<u8>,
     ) -> Result<KeyCounts, AllocError> {
         let view = read_auth_view(line, buffer);
-        let counts = push_line(alloc, form, asked, place, line, &view, self, out)?;
+        let counts = push_line(alloc, form, asked, place, line, &view, self, keys, out)?;
         Ok(KeyCounts {
             counts,
             stands: false,
@@ -232,7 +260,8 @@ impl LineRecords for Earlier {
 /// for each entry and each line that cannot be read.
 pub fn auth_records(alloc: Global, file: &[u8]) -> Result<Records<'_, Earlier>, AllocError>
     requires { length file.now ≤ file_limit }
-    ensures { IfOk result (λ r. (show : ShowValue) (form : RecordFormValue) (asking : Asking) (head : List ℕ)
+    ensures lines { IfOk result (λ r. lines_left r ≡ numbered 1 (lines_of file.now)) }
+    ensures left { IfOk result (λ r. (show : ShowValue) (form : RecordFormValue) (asking : Asking) (head : List ℕ)
         → HasLeft AuthTells show form asking head file.now
         (shown_records show (line_reports_of form asking head [] (numbered 1 (lines_of file.now))))
         (of_all (counts_of asking [] (numbered 1 (lines_of file.now)))) r) }

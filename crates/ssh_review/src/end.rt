@@ -5,12 +5,14 @@ ghost use Rattle.ssh_review.specs.Counting.{no_counts, plus_within};
 ghost use Rattle.std.specs.List.{flat_map};
 ghost use Rattle.ssh_findings.specs.Asking.{asking_of};
 ghost use Rattle.ssh_review.specs.Asked.{asked_of};
-ghost use Rattle.ssh_review.specs.Ends.{asked_by, count_text, counts_text, end_text, end_words, cause_words, fault_code, fault_text, fault_words, total_text, total_words, why_text};
-ghost use Rattle.ssh_review.specs.EndObjects.{code_element, counts_fields, end_head, end_object, fault_object, review_fields, total_counts, total_object, why_field};
+ghost use Rattle.ssh_review.specs.Ends.{asked_by, count_text, counts_text, distinct_words, end_text, end_words, cause_words, fault_code, fault_text, fault_words, found_text, lines_text, total_text, total_words, why_text};
+ghost use Rattle.ssh_review.specs.EndObjects.{code_element, counts_fields, end_head, end_object, fault_object, found_fields, line_fields, review_fields, total_counts, total_object, why_field};
 
 use crate::asked::{AskedAt, push_asked_fields, push_asked_words, push_total_head};
 use crate::fault_counts::{FaultCounts, push_faults_object};
-use crate::fields::{push_array, push_null_field, push_number_field, push_text_field};
+use crate::fields::{
+    push_array, push_null_field, push_number_field, push_number_or_null, push_text_field,
+};
 use crate::found::{push_found_lines, push_found_object};
 use ssh_files::UnreadCause;
 use ssh_findings::{Code, CodeCounts, ReviewOptions};
@@ -104,6 +106,9 @@ pub struct Total {
     /// How many files had which fault.
     pub faults_by_code: FaultCounts,
     pub counts: Counts,
+    /// How many different keys stand on the key lines of all files; `None` where that are more than
+    /// 65,536.
+    pub distinct_keys: Option<u64>,
 }
 
 fn push_count(out: &mut Vec<u8>, number: u64, what: &[u8]) -> Result<(), AllocError>
@@ -114,14 +119,41 @@ fn push_count(out: &mut Vec<u8>, number: u64, what: &[u8]) -> Result<(), AllocEr
     Ok(())
 }
 
-fn push_counts(out: &mut Vec<u8>, counts: Counts) -> Result<(), AllocError>
-    ensures { OnOk result (out.new.items ≡ out.old.items ++ counts_text counts) }
+fn push_lines_text(out: &mut Vec<u8>, counts: Counts) -> Result<(), AllocError>
+    ensures { OnOk result (out.new.items ≡ out.old.items ++ lines_text counts) }
 {
     push_count(out, counts.lines, b" lines, ")?;
     push_count(out, counts.keys, b" key lines, ")?;
+    Ok(())
+}
+
+fn push_found_text(out: &mut Vec<u8>, counts: Counts) -> Result<(), AllocError>
+    ensures { OnOk result (out.new.items ≡ out.old.items ++ found_text counts) }
+{
     push_count(out, counts.unreadable, b" unreadable, ")?;
     push_count(out, counts.findings, b" findings")?;
     Ok(())
+}
+
+fn push_counts(out: &mut Vec<u8>, counts: Counts) -> Result<(), AllocError>
+    ensures { OnOk result (out.new.items ≡ out.old.items ++ counts_text counts) }
+{
+    push_lines_text(out, counts)?;
+    push_found_text(out, counts)?;
+    Ok(())
+}
+
+/// Appends how many different keys stand on the key lines of all files.
+fn push_distinct_words(out: &mut Vec<u8>, keys: Option<u64>) -> Result<(), AllocError>
+    ensures { OnOk result (out.new.items ≡ out.old.items ++ distinct_words keys) }
+{
+    match keys {
+        None => {
+            out.extend_from_slice(b"more than 65536 distinct keys, ")?;
+            Ok(())
+        }
+        Some(keys) => push_count(out, keys, b" distinct keys, "),
+    }
 }
 
 /// Appends the counts of a file that was reviewed, and the SHA-256 of its bytes.
@@ -237,7 +269,9 @@ pub(crate) fn push_total_words(
     out.extend_from_slice(b"total: ")?;
     push_count(out, total.files, b" files, ")?;
     push_count(out, total.faults, b" faults, ")?;
-    push_counts(out, total.counts)?;
+    push_lines_text(out, total.counts)?;
+    push_distinct_words(out, total.distinct_keys)?;
+    push_found_text(out, total.counts)?;
     out.extend_from_slice(b", ")?;
     push_asked_words(alloc, out, &asked_by(zone, asked))?;
     Ok(())
@@ -271,14 +305,30 @@ fn push_end_head(out: &mut Vec<u8>, head: &[u8]) -> Result<(), AllocError>
     Ok(())
 }
 
+#[tactic(auto, unfolding(crate::specs::EndObjects::line_fields))]
+fn push_line_fields(out: &mut Vec<u8>, counts: Counts) -> Result<(), AllocError>
+    ensures { OnOk result (out.new.items ≡ out.old.items ++ line_fields counts) }
+{
+    push_number_field(out, b"lines", counts.lines)?;
+    push_number_field(out, b"key_lines", counts.keys)?;
+    Ok(())
+}
+
+#[tactic(auto, unfolding(crate::specs::EndObjects::found_fields))]
+fn push_found_fields(out: &mut Vec<u8>, counts: Counts) -> Result<(), AllocError>
+    ensures { OnOk result (out.new.items ≡ out.old.items ++ found_fields counts) }
+{
+    push_number_field(out, b"unreadable", counts.unreadable)?;
+    push_number_field(out, b"findings", counts.findings)?;
+    Ok(())
+}
+
 #[tactic(auto, unfolding(crate::specs::EndObjects::counts_fields))]
 fn push_counts_fields(out: &mut Vec<u8>, counts: Counts) -> Result<(), AllocError>
     ensures { OnOk result (out.new.items ≡ out.old.items ++ counts_fields counts) }
 {
-    push_number_field(out, b"lines", counts.lines)?;
-    push_number_field(out, b"key_lines", counts.keys)?;
-    push_number_field(out, b"unreadable", counts.unreadable)?;
-    push_number_field(out, b"findings", counts.findings)?;
+    push_line_fields(out, counts)?;
+    push_found_fields(out, counts)?;
     Ok(())
 }
 
@@ -378,7 +428,9 @@ fn push_total_counts(alloc: Global, out: &mut Vec<u8>, total: &Total) -> Result<
     push_number_field(out, b"files", total.files)?;
     push_number_field(out, b"faults", total.faults)?;
     push_faults_object(alloc, out, total.faults_by_code)?;
-    push_counts_fields(out, total.counts)?;
+    push_line_fields(out, total.counts)?;
+    push_number_or_null(out, b"distinct_keys", total.distinct_keys)?;
+    push_found_fields(out, total.counts)?;
     push_found_object(alloc, out, total.counts.by_code)?;
     Ok(())
 }

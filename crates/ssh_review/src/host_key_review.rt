@@ -17,6 +17,7 @@ ghost use Rattle.ssh_review.specs.KeyRecords.{lists_key};
 ghost use Rattle.ssh_review.specs.KeyReviews.{key_review, known_key_review};
 ghost use Rattle.ssh_review.specs.Making.{HasLeft, KnownKeyTells};
 
+use crate::distinct_keys::DistinctKeys;
 use crate::end::{FileFault, Form};
 use crate::fields::print_of;
 use crate::host_review::{
@@ -73,7 +74,18 @@ fn push_key_entry(
 {
     let (facts, stands) = read_facts(alloc, line, entry, sought)?;
     if stands {
-        let counts = push_entry_line(alloc, form, asked, place, line, entry, earlier, out)?;
+        let mut others = DistinctKeys::new(alloc);
+        let counts = push_entry_line(
+            alloc,
+            form,
+            asked,
+            place,
+            line,
+            entry,
+            earlier,
+            &mut others,
+            out,
+        )?;
         Ok(KeyCounts { counts, stands })
     } else {
         earlier.keep_entry(alloc, place.number, entry.blob(), &facts)?;
@@ -213,6 +225,8 @@ fn push_key_line(
 impl<'a> LineRecords for ForKey<'a, EarlierHosts> {
     ghost tells = { KnownKeyTells };
 
+    ghost keys_on = { λ line. [] };
+
     fn push_record(
         &mut self,
         alloc: Global,
@@ -221,6 +235,7 @@ impl<'a> LineRecords for ForKey<'a, EarlierHosts> {
         place: &LineRef<'_>,
         line: &[u8],
         buffer: &mut KeyBuffer,
+        keys: &mut DistinctKeys,
         out: &mut Vec<u8>,
     ) -> Result<KeyCounts, AllocError> {
         let view = read_known_view(line, buffer);

@@ -6,6 +6,7 @@ ghost use Rattle.ssh_entries.specs.declared.known_line.KnownLine.{KnownLine};
 ghost use Rattle.ssh_entries.specs.KnownSeen.{known_seen};
 ghost use Rattle.ssh_text.specs.Text.{file_limit, lines_of, numbered};
 ghost use Rattle.ssh_findings.specs.Asking.{Asking, asking_of};
+ghost use Rattle.ssh_findings.specs.HostFacts.{host_facts_of};
 ghost use Rattle.ssh_findings.specs.HostLines.{HostLine};
 ghost use Rattle.ssh_findings.specs.HostFindingsMemory.{host_bytes_kept, kept_sum};
 ghost use Rattle.ssh_findings.specs.StandsFor.{RemembersLines};
@@ -18,13 +19,16 @@ ghost use Rattle.ssh_page.specs.HostRecords.{revoked_row};
 ghost use Rattle.ssh_review.specs.HostRecords.{print_of};
 ghost use Rattle.ssh_review.specs.HostLines.{host_counts_of, host_kept_of, host_line_counts, host_line_findings, host_line_record};
 ghost use Rattle.ssh_review.specs.HostMemory.{host_line_bytes, host_line_sum};
-ghost use Rattle.ssh_review.specs.Making.{HasLeft, KnownTells};
+ghost use Rattle.ssh_review.specs.Making.{HasLeft, KnownTells, lines_left};
+ghost use Rattle.ssh_page.specs.declared.file.FileKind.TheVariants.{KnownHosts};
+ghost use Rattle.ssh_review.specs.DistinctKeys.{known_line_keys, line_keys, with_keys};
 ghost use Rattle.ssh_review.specs.Reviews.{review};
 ghost use Rattle.ssh_review.specs.HostReviews.{known_review};
 ghost use Rattle.ssh_review.specs.ShownRecords.{shown_records};
 ghost use Rattle.ssh_review.specs.LineReports.{host_line_reports_of, of_all};
 
 use crate::auth_review::review_fault;
+use crate::distinct_keys::DistinctKeys;
 use crate::end::{Counts, FileFault, Form, Reviewed};
 use crate::fields::print_of;
 use crate::host_json_record::{push_bare_in, push_entry_in, push_revoked_in};
@@ -44,6 +48,21 @@ use ssh_page::{RowPlace, push_bare_row, push_host_entry_row, push_revoked_row};
 use ssh_text::FILE_LIMIT;
 use std::alloc::{AllocError, Global};
 
+/// Notes the key of the entry on a line with these facts.
+#[tactic(auto, unfolding(ssh_findings::specs::HostFacts::host_facts_of))]
+fn note_entry(
+    line: &[u8],
+    entry: &KnownEntryView<'_>,
+    facts: &HostFacts,
+    keys: &mut DistinctKeys,
+) -> Result<(), AllocError>
+    requires { facts.now ≡ host_facts_of line.now entry.now }
+    ensures { OnOk result
+        (keys.new ≡ with_keys keys.old (known_line_keys (KnownLine.Entry entry.now))) }
+{
+    keys.note(facts.fingerprint)
+}
+
 /// Appends the record of an entry, and stores what later lines need of the entry.
 pub(crate) fn push_entry_line(
     alloc: Global,
@@ -53,6 +72,7 @@ pub(crate) fn push_entry_line(
     line: &[u8],
     entry: &KnownEntryView<'_>,
     earlier: &mut EarlierHosts,
+    keys: &mut DistinctKeys,
     out: &mut Vec<u8>,
 ) -> Result<Counts, AllocError>
     ensures text { OnOk result ((lines : List HostLine) → RemembersLines earlier.old lines
@@ -65,6 +85,8 @@ pub(crate) fn push_entry_line(
         place.entry.now.number line.now (KnownLine.Entry entry.now))) }
     ensures bytes { OnOk result (host_bytes_kept earlier.new
         ≤ host_bytes_kept earlier.old + host_line_bytes line.now (KnownLine.Entry entry.now)) }
+    ensures noted { OnOk result
+        (keys.new ≡ with_keys keys.old (known_line_keys (KnownLine.Entry entry.now))) }
     ensures sum { OnOk result ((weight : List ℕ → ℕ) → kept_sum weight earlier.new
         ≤ kept_sum weight earlier.old + host_line_sum weight line.now (KnownLine.Entry entry.now)) }
 {
@@ -82,6 +104,7 @@ pub(crate) fn push_entry_line(
             push_host_entry_row(alloc, out, row_place(file, place.number), &facts, &found)?;
         }
     }
+    note_entry(line, entry, &facts, keys)?;
     earlier.keep_entry(alloc, place.number, entry.blob(), &facts)?;
     Ok(Counts {
         lines: 1,
@@ -258,6 +281,7 @@ fn push_line(
     line: &[u8],
     view: &KnownLineView<'_>,
     earlier: &mut EarlierHosts,
+    keys: &mut DistinctKeys,
     out: &mut Vec<u8>,
 ) -> Result<Counts, AllocError>
     ensures text { OnOk result ((lines : List HostLine) → RemembersLines earlier.old lines
@@ -270,13 +294,15 @@ fn push_line(
         place.entry.now.number line.now (known_seen view.now))) }
     ensures bytes { OnOk result (host_bytes_kept earlier.new
         ≤ host_bytes_kept earlier.old + host_line_bytes line.now (known_seen view.now)) }
+    ensures noted { OnOk result
+        (keys.new ≡ with_keys keys.old (known_line_keys (known_seen view.now))) }
     ensures sum { OnOk result ((weight : List ℕ → ℕ) → kept_sum weight earlier.new
         ≤ kept_sum weight earlier.old + host_line_sum weight line.now (known_seen view.now)) }
 {
     match view {
         KnownLineView::Blank | KnownLineView::Comment => Ok(Counts::LINE_ALONE),
         KnownLineView::Entry(entry) => push_entry_line(
-            alloc, form, asked, place, line, entry, earlier, out,
+            alloc, form, asked, place, line, entry, earlier, keys, out,
         ),
         KnownLineView::Revoked(bytes) => {
             push_revoked_line(alloc, form, asked, place, line, bytes, earlier, out)
@@ -291,6 +317,8 @@ fn push_line(
 impl LineRecords for EarlierHosts {
     ghost tells = { KnownTells };
 
+    ghost keys_on = { line_keys KnownHosts };
+
     fn push_record(
         &mut self,
         alloc: Global,
@@ -299,10 +327,11 @@ impl LineRecords for EarlierHosts {
         place: &LineRef<'_>,
         line: &[u8],
         buffer: &mut KeyBuffer,
+        keys: &mut DistinctKeys,
         out: &mut Vec<u8>,
     ) -> Result<KeyCounts, AllocError> {
         let view = read_known_view(line, buffer);
-        let counts = push_line(alloc, form, asked, place, line, &view, self, out)?;
+        let counts = push_line(alloc, form, asked, place, line, &view, self, keys, out)?;
         Ok(KeyCounts {
             counts,
             stands: false,
@@ -318,7 +347,8 @@ impl LineRecords for EarlierHosts {
 /// blob.
 pub fn known_records(alloc: Global, file: &[u8]) -> Result<Records<'_, EarlierHosts>, AllocError>
     requires { length file.now ≤ file_limit }
-    ensures { IfOk result (λ r. (show : ShowValue) (form : RecordFormValue) (asking : Asking) (head : List ℕ)
+    ensures lines { IfOk result (λ r. lines_left r ≡ numbered 1 (lines_of file.now)) }
+    ensures left { IfOk result (λ r. (show : ShowValue) (form : RecordFormValue) (asking : Asking) (head : List ℕ)
         → HasLeft KnownTells show form asking head file.now
         (shown_records show (host_line_reports_of form asking head [] (numbered 1 (lines_of file.now))))
         (of_all (host_counts_of asking [] (numbered 1 (lines_of file.now)))) r) }

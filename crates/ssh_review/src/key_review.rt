@@ -17,6 +17,7 @@ ghost use Rattle.ssh_review.specs.Lines.{held_by_line};
 ghost use Rattle.ssh_review.specs.Making.{AuthKeyTells, HasLeft};
 
 use crate::auth_review::{push_end, push_entry_line, push_unreadable_line, review_fault};
+use crate::distinct_keys::DistinctKeys;
 use crate::end::{Counts, FileFault, Form, Reviewed};
 use crate::json_record::LineRef;
 use crate::records::{ForKey, LineRecords, RecordForm, Records, whole_review};
@@ -119,7 +120,8 @@ fn push_key_entry(
 {
     let (facts, stands) = read_facts(alloc, asked, entry, sought)?;
     if stands {
-        let counts = push_entry_line(alloc, form, asked, place, entry, earlier, out)?;
+        let mut others = DistinctKeys::new(alloc);
+        let counts = push_entry_line(alloc, form, asked, place, entry, earlier, &mut others, out)?;
         Ok(KeyCounts { counts, stands })
     } else {
         earlier.keep(alloc, place.number, entry.blob(), facts)?;
@@ -190,6 +192,8 @@ fn push_key_line(
 impl<'a> LineRecords for ForKey<'a, Earlier> {
     ghost tells = { AuthKeyTells };
 
+    ghost keys_on = { λ line. [] };
+
     fn push_record(
         &mut self,
         alloc: Global,
@@ -198,6 +202,7 @@ impl<'a> LineRecords for ForKey<'a, Earlier> {
         place: &LineRef<'_>,
         line: &[u8],
         buffer: &mut KeyBuffer,
+        keys: &mut DistinctKeys,
         out: &mut Vec<u8>,
     ) -> Result<KeyCounts, AllocError> {
         let view = read_auth_view(line, buffer);

@@ -18,12 +18,14 @@
 //!
 //! The records of a large file are many times its size. So they can be made a few at a time, by
 //! `auth_records`, `known_records`, `auth_key_records` and `known_key_records`. A caller that writes
-//! those that are shown (`Show`) as they are made, and then the end of the file:
+//! those that are shown (`Show`) as they are made, and then the end of the file; `keys` then counts the
+//! different keys on its key lines:
 //!
 //! ```
 //! let form = RecordForm::AsLines(Form::Text);
 //! let mut records = auth_records(alloc, file)?;
-//! while records.push_some(alloc, Show::All, form, &asked, &head, &mut out)? {
+//! let mut keys = DistinctKeys::new(alloc);
+//! while records.push_some(alloc, Show::All, form, &asked, &head, &mut keys, &mut out)? {
 //!     writer.write_all(&out)?;
 //!     out.clear();
 //! }
@@ -71,6 +73,7 @@ mod answer_json;
 mod asked;
 mod auth_review;
 mod decision_laws;
+mod distinct_keys;
 mod end;
 mod fault_counts;
 mod fields;
@@ -98,6 +101,7 @@ mod table;
 pub use answer_json::{answer_object, answer_total};
 pub use asked::{AskedAt, asked_line};
 pub use auth_review::{auth_records, push_end, review_auth, review_fault, total_line, total_words};
+pub use distinct_keys::DistinctKeys;
 pub use end::{Counts, FileFault, Form, Reviewed, Total};
 pub use fault_counts::FaultCounts;
 pub use file_name::{FileName, Labels, file_head, shown_name};

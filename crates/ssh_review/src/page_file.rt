@@ -10,10 +10,12 @@ ghost use Rattle.ssh_page.specs.Files.{classes_seen, file_row, seen};
 ghost use Rattle.ssh_review.specs.declared.key_review.KeyCounts.{KeyCounts as KeyCountsValue};
 ghost use Rattle.ssh_review.specs.declared.records.RecordForm.TheVariants.{AsRow};
 ghost use Rattle.ssh_review.specs.declared.show.Show.TheVariants.{All};
-ghost use Rattle.ssh_review.specs.Making.{HasLeft};
+ghost use Rattle.ssh_review.specs.Making.{HasLeft, keys_left};
+ghost use Rattle.ssh_review.specs.DistinctKeys.{file_keys, with_keys};
 ghost use Rattle.ssh_review.specs.PageFiles.{cause_means, classes_of, fault_means, file_counts, file_section, register_row, section_marks, seen_so, unread_row, unread_section};
 
 use crate::auth_review::auth_records;
+use crate::distinct_keys::DistinctKeys;
 use crate::end::{Counts, FileFault, fault_code};
 use crate::host_review::known_records;
 use crate::records::{LineRecords, RecordForm, Records, push_all};
@@ -82,12 +84,14 @@ fn push_records<L: LineRecords + Drop>(
     name: &[u8],
     file: &[u8],
     begun: Records<'_, L>,
+    keys: &mut DistinctKeys,
     sections: &mut Vec<u8>,
     register: &mut Vec<u8>,
 ) -> Result<Counts, AllocError>
     ensures counts { IfOk result (λ counts. (text : List ℕ) (all : KeyCountsValue)
         → HasLeft L.tells All (AsRow number) (asking_of asked.entry.now) name.now file.now text all begun.entry
         → counts ≡ all.counts) }
+    ensures noted { OnOk result (keys.new ≡ keys_left L.keys_on begun.entry keys.old) }
     ensures section { OnOk result ((text : List ℕ) (all : KeyCountsValue)
         → HasLeft L.tells All (AsRow number) (asking_of asked.entry.now) name.now file.now text all begun.entry
         → sections.new.items ≡ sections.old.items
@@ -104,6 +108,7 @@ fn push_records<L: LineRecords + Drop>(
         asked,
         name,
         begun,
+        keys,
         &mut rows,
     )?;
     let digest = Sha256::digest(file);
@@ -114,7 +119,7 @@ fn push_records<L: LineRecords + Drop>(
 }
 
 /// Appends what a file of this name and these bytes has on the page: the section with this number,
-/// counted from 0, and the row in the register. Returns the counts of the file.
+/// counted from 0, and the row in the register. Notes its keys, and returns its counts.
 pub fn push_page_file(
     alloc: Global,
     kind: FileKind,
@@ -122,12 +127,14 @@ pub fn push_page_file(
     asked: &ReviewOptions<'_>,
     name: &[u8],
     file: &[u8],
+    keys: &mut DistinctKeys,
     sections: &mut Vec<u8>,
     register: &mut Vec<u8>,
 ) -> Result<Counts, AllocError>
     requires { length file.now ≤ file_limit }
     ensures counts { IfOk result
         (λ counts. counts ≡ file_counts kind (asking_of asked.entry.now) file.now) }
+    ensures noted { OnOk result (keys.new ≡ with_keys keys.old (file_keys kind file.now)) }
     ensures section { OnOk result (sections.new.items ≡ sections.old.items
         ++ marks (file_section kind number (asking_of asked.entry.now) name.now file.now)) }
     ensures row { OnOk result (register.new.items ≡ register.old.items
@@ -137,13 +144,13 @@ pub fn push_page_file(
         FileKind::AuthorizedKeys => {
             let begun = auth_records(alloc, file)?;
             push_records(
-                alloc, kind, number, asked, name, file, begun, sections, register,
+                alloc, kind, number, asked, name, file, begun, keys, sections, register,
             )
         }
         FileKind::KnownHosts => {
             let begun = known_records(alloc, file)?;
             push_records(
-                alloc, kind, number, asked, name, file, begun, sections, register,
+                alloc, kind, number, asked, name, file, begun, keys, sections, register,
             )
         }
     }

@@ -9,9 +9,11 @@ ghost use Rattle.ssh_review.specs.declared.key_review.KeyCounts.{KeyCounts as Ke
 ghost use Rattle.ssh_review.specs.declared.show.Show.TheVariants.{All};
 ghost use Rattle.ssh_review.specs.KeyRecords.{no_key_counts};
 ghost use Rattle.ssh_review.specs.KeyReviews.{key_review, reviewed_by};
-ghost use Rattle.ssh_review.specs.Making.{IsWrittenInLines, AreWholeLines, HasLeft, IsAllMade, MakesFront, lines_left};
+ghost use Rattle.ssh_review.specs.Making.{IsWrittenInLines, AreWholeLines, HasLeft, IsAllMade, MakesFront, keys_left, lines_left};
+ghost use Rattle.ssh_review.specs.DistinctKeys.{with_keys};
 ghost use Rattle.ssh_review.specs.LineReports.{LineReport, line_report};
 
+use crate::distinct_keys::DistinctKeys;
 use crate::end::Form;
 use crate::json_record::LineRef;
 use crate::key_review::{KeyCounts, KeyReviewed, with_end};
@@ -37,8 +39,11 @@ pub trait LineRecords {
     /// tell this, one after the other.
     ghost tells: { Self → RecordFormValue → Asking → List ℕ → List ℕ → List (ℕ × List ℕ) → List LineReport → Type 0 };
 
-    /// Appends the record of a line, if it has one, stores what later lines need of the line, and
-    /// returns its counts. The line's key is decoded into the buffer.
+    /// The keys of this line that are noted.
+    ghost keys_on: { List ℕ → List (List ℕ) };
+
+    /// Appends the record of a line, if it has one, stores what later lines need of the line, notes
+    /// its key, and returns its counts. The line's key is decoded into the buffer.
     fn push_record(
         &mut self,
         alloc: Global,
@@ -47,9 +52,11 @@ pub trait LineRecords {
         place: &LineRef<'_>,
         line: &[u8],
         buffer: &mut KeyBuffer,
+        keys: &mut DistinctKeys,
         out: &mut Vec<u8>,
     ) -> Result<KeyCounts, AllocError>
-        ensures { IfOk result (λ reported. (file : List ℕ) (lines : List (ℕ × List ℕ)) (line_reports : List LineReport)
+        ensures noted { OnOk result (keys.new ≡ with_keys keys.old (keys_on line.now)) }
+        ensures record { IfOk result (λ reported. (file : List ℕ) (lines : List (ℕ × List ℕ)) (line_reports : List LineReport)
             → tells self.old form (asking_of asked.entry.now) place.entry.now.head.now file
             ((place.entry.now.number, line.now) ∷ lines) line_reports
             → (own : List ℕ) × (more : List LineReport) × (line_reports ≡ line_report own reported ∷ more)
@@ -117,6 +124,7 @@ impl<'a, L: LineRecords + Drop> Records<'a, L> {
         form: RecordForm,
         asked: &ReviewOptions<'_>,
         head: &[u8],
+        keys: &mut DistinctKeys,
         out: &mut Vec<u8>,
     ) -> Result<bool, AllocError>
         ensures made { OnOk result (MakesFront L.tells show form (asking_of asked.entry.now) head.now
@@ -125,15 +133,25 @@ impl<'a, L: LineRecords + Drop> Records<'a, L> {
             → length (lines_left self.new) < length (lines_left self.old)) }
         ensures over { IfOk result (λ more. more ≡ false
             → IsAllMade L.tells show form (asking_of asked.entry.now) head.now self.new) }
+        ensures noted { OnOk result
+            (keys_left L.keys_on self.new keys.new ≡ keys_left L.keys_on self.old keys.old) }
+        ensures none { IfOk result (λ more. more ≡ false → lines_left self.new ≡ []) }
     {
         match self.lines.next() {
             None => Ok(false),
             Some((number, line)) => {
                 let place = LineRef { head, number };
                 let before = out.len();
-                let reported = self
-                    .earlier
-                    .push_record(alloc, form, asked, &place, line, &mut self.buffer, out)?;
+                let reported = self.earlier.push_record(
+                    alloc,
+                    form,
+                    asked,
+                    &place,
+                    line,
+                    &mut self.buffer,
+                    keys,
+                    out,
+                )?;
                 leave_shown(out, before, show.shows(reported.counts));
                 self.reported = self.reported.plus(reported);
                 Ok(true)
@@ -151,6 +169,7 @@ impl<'a, L: LineRecords + Drop> Records<'a, L> {
         form: RecordForm,
         asked: &ReviewOptions<'_>,
         head: &[u8],
+        keys: &mut DistinctKeys,
         out: &mut Vec<u8>,
     ) -> Result<bool, AllocError>
         ensures made { OnOk result (MakesFront L.tells show form (asking_of asked.entry.now) head.now
@@ -159,8 +178,11 @@ impl<'a, L: LineRecords + Drop> Records<'a, L> {
             → length (lines_left self.new) < length (lines_left self.old)) }
         ensures over { IfOk result (λ more. more ≡ false
             → IsAllMade L.tells show form (asking_of asked.entry.now) head.now self.new) }
+        ensures noted { OnOk result
+            (keys_left L.keys_on self.new keys.new ≡ keys_left L.keys_on self.old keys.old) }
+        ensures none { IfOk result (λ more. more ≡ false → lines_left self.new ≡ []) }
     {
-        while self.push_next(alloc, show, form, asked, head, out)? {
+        while self.push_next(alloc, show, form, asked, head, keys, out)? {
             if out.len() >= ENOUGH {
                 return Ok(true);
             }
@@ -176,14 +198,16 @@ pub(crate) fn push_all<L: LineRecords + Drop>(
     asked: &ReviewOptions<'_>,
     head: &[u8],
     begun: Records<'_, L>,
+    keys: &mut DistinctKeys,
     out: &mut Vec<u8>,
 ) -> Result<KeyCounts, AllocError>
-    ensures { IfOk result (λ reported. (file text : List ℕ) (all : KeyCountsValue)
+    ensures noted { OnOk result (keys.new ≡ keys_left L.keys_on begun.entry keys.old) }
+    ensures made { IfOk result (λ reported. (file text : List ℕ) (all : KeyCountsValue)
         → HasLeft L.tells All form (asking_of asked.entry.now) head.now file text all begun.entry
         → (out.new.items ≡ out.old.items ++ text) × (reported ≡ all)) }
 {
     let mut records = begun;
-    while records.push_some(alloc, Show::All, form, asked, head, out)? {}
+    while records.push_some(alloc, Show::All, form, asked, head, keys, out)? {}
     Ok(records.reported)
 }
 
@@ -201,12 +225,14 @@ pub(crate) fn whole_review<L: LineRecords + Drop>(
         → key_review r ≡ reviewed_by form head.now file.now text all) }
 {
     let mut text = Vec::new(alloc);
+    let mut keys = DistinctKeys::new(alloc);
     let reported = push_all(
         alloc,
         RecordForm::AsLines(form),
         asked,
         head,
         begun,
+        &mut keys,
         &mut text,
     )?;
     let reviewed = with_end(alloc, form, head, file, reported, text)?;

@@ -2,7 +2,7 @@ use Rattle.ssh_program.proofs.Imports.{◌∷◌, sym, ◌+◌, ◌∙◌, drop,
 use Rattle.ssh_review.specs.FileNames.{NameSeen}
 use Rattle.ssh_program.specs.Namings.{named, names_seen}
 use Rattle.std.specs.Prelude.{◌||◌}
-use Rattle.ssh_program.specs.KeySeeking.{key_review_kept, key_total, key_lines_before, telling_key_review, with_key_file}
+use Rattle.ssh_program.specs.KeySeeking.{key_review_kept, key_total, key_lines_before, one_key, telling_key_review, with_key_file}
 use Rattle.ssh_program.specs.Totals.{with_counted}
 use Rattle.ssh_program.specs.declared.key_seeking.KeyTotal.{KeyTotal}
 use Rattle.ssh_program.specs.declared.streaming.FileReported.{FileReported}
@@ -39,9 +39,9 @@ loop-word-preserved g c =
           (at_drop_more (map (λ word. named c.args.names.naming word.now)) c.args.names.words.now c.loop-word.word-index _ c.loop-word-test.true
           ∙ ap (λ (n : NameSeen). n ∷ map (λ word. named c.args.names.naming word.now) (drop (c.loop-word.word-index + 1) c.args.names.words.now)) (sym c.name_of-name.ensures))
           (λ sofar reported. refl)
-          (λ sofar reported is same. rw (c.with_counted-total.ensures, c.either-stands.ensures)
-          (ap (λ (k : KeyTotal). record { total = with_counted k.total x.counts x.fault; stands = k.stands || x.stands }) is
-          ∙ ap (λ (y : FileReported). record { total = with_counted sofar.lines.total y.counts y.fault; stands = sofar.stands || y.stands }) same))
+          (λ sofar reported is same. rw (c.with_counted-total.ensures, c.one_key-keys.ensures, c.either-stands.ensures)
+          (ap (λ (k : KeyTotal). record { total = with_counted k.total (one_key k.total.counts.keys x.counts.keys) x.counts x.fault; stands = k.stands || x.stands }) is
+          ∙ ap (λ (y : FileReported). record { total = with_counted sofar.lines.total (one_key sofar.lines.total.counts.keys y.counts.keys) y.counts y.fault; stands = sofar.stands || y.stands }) same))
           c.loop-word.invariant.1 c.in_ok-reported.ensures.reported,
     )
 

@@ -6,14 +6,14 @@ use Rattle.ssh_program.proofs.review_page.tell_shown.Goals as goal
 
 pub returns-in-Ok : goal.returns-in-Ok
 returns-in-Ok g c =
-    file-line_reports c.args.kind c.args.number (asking_of c.args.asked.now) (name_seen c.args.name) c.args.shown.now c.in-Ok.file.items c.deref.result.now
-    (g.F.Files.source_state c.args.files.now) (g.F.Files.source_state c.read_whole.new.files) c.push_reviewed.result
-    c.args.sections.now.items c.push_reviewed.new.sections.items c.args.register.now.items c.push_reviewed.new.register.items
+    file-line_reports c.args.kind c.args.number c.args.keys (asking_of c.args.asked.now) (name_seen c.args.name) c.args.shown.now c.in-Ok.file.items c.deref.result.now
+    (g.F.Files.source_state c.args.files.now) (g.F.Files.source_state c.read_whole.new.files) c.push_noted.result
+    c.args.sections.now.items c.push_noted.new.sections.items c.args.register.now.items c.push_noted.new.register.items
     c.requires (search rules) (search rules) c.in-Ok.ensures.bytes c.in-Ok.ensures.others (search rules) (search rules) (search rules)
 
 pub returns-in-Err : goal.returns-in-Err
 returns-in-Err g c =
-    file-unread c.args.kind c.args.number (asking_of c.args.asked.now) (name_seen c.args.name) c.args.shown.now
+    file-unread c.args.kind c.args.number c.args.keys (asking_of c.args.asked.now) (name_seen c.args.name) c.args.shown.now
     (g.F.Files.source_state c.args.files.now) (g.F.Files.source_state c.read_whole.new.files) c.in-Err.fault c.unread_cause-cause.result c.push_unread.result
     c.args.sections.now.items c.push_unread.new.sections.items c.args.register.now.items c.push_unread.new.register.items
     c.requires c.in-Err.ensures.bytes c.in-Err.ensures.others

@@ -1,6 +1,7 @@
-use Rattle.ssh_program.proofs.Imports.{◌≡◌, AsLines, None, ◌∙◌, ◌++◌, List, ℕ, ap, asking_of, err_from_is_err_and, rules, subst, sym, Breaks, TakesAll}
+use Rattle.ssh_program.proofs.Imports.{◌≡◌, AsLines, None, ◌∙◌, ◌++◌, List, ℕ, asking_of, err_from_is_err_and, refl, rules, subst, sym, Breaks, TakesAll}
 use Rattle.sha2.specs.Sha256.{sha256}
 use Rattle.ssh_review.specs.Forms.{end_line}
+use Rattle.ssh_review.proofs.MakingLemmas.{keys-over}
 use Rattle.ssh_review.specs.Making.{MakesFront}
 use Rattle.ssh_review.specs.ShownRecords.{shown_end}
 use Rattle.ssh_program.specs.declared.streaming.FileReported.{FileReported}
@@ -13,6 +14,7 @@ loop-out-init g c = (
   c.requires,
   search rules,
   put-first g.L.LineRecords.tells c.args.show c.args.form (asking_of c.args.asked.now) c.args.head.now c.args.begun (g.W.Sink.account c.args.writer.now),
+  refl,
 )
 
 pub loop-out-preserved : goal.loop-out-preserved
@@ -26,6 +28,7 @@ loop-out-preserved g c =
       none_failed before new c.push_some.new.out.items taken c.loop-out.invariant.0,
       search rules,
       put-more g.L.LineRecords.tells c.args.show c.args.form asking c.args.head.now c.args.begun c.loop-out.records c.push_some.new.self old before new c.push_some.new.out.items c.loop-out.invariant.2 makes taken,
+      c.in_ok-push_some.ensures.noted ∙ c.loop-out.invariant.3,
     )
 
 pub returns-in_err-push_some-clause-failed : goal.returns-in_err-push_some-clause-failed
@@ -80,3 +83,6 @@ returns-clause-put g c =
     let taken = subst (λ (l : List ℕ). TakesAll before new l) c.deref-2.ensures.value c.in_ok-put_lines-2.ensures.ok in
     λ text all w. rw c.reported-reported.ensures (put-all g.L.LineRecords.tells c.args.show c.args.form asking c.args.head.now c.args.file.now text (sha256 c.args.file.now) all c.args.begun c.loop-out.records c.push_some.new.self
     (g.W.Sink.account c.args.writer.now) before new c.push_some.new.out.items c.push_shown_end.new.out.items c.loop-out.invariant.2 makes (c.in_ok-push_some.ensures.over c.if-branch.false) is taken w)
+
+pub returns-clause-noted : goal.returns-clause-noted
+returns-clause-noted g c = keys-over g.L.LineRecords.keys_on _ c.push_some.new.keys _ (c.in_ok-push_some.ensures.none c.if-branch.false) (c.in_ok-push_some.ensures.noted ∙ c.loop-out.invariant.3)

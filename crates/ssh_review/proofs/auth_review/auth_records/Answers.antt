@@ -7,8 +7,8 @@ use Rattle.ssh_review.proofs.ShownRecordLemmas.{report-counts}
 use Rattle.ssh_review.proofs.StepLemmas.{auth-first, auth-fits}
 use Rattle.ssh_review.proofs.auth_review.auth_records.Goals as goal
 
-pub returns : goal.returns
-returns c =
+pub returns-clause-left : goal.returns-clause-left
+returns-clause-left c =
     λ show form asking name.
     let file = c.args.file.now in
     let lines = numbered 1 (lines_of file) in

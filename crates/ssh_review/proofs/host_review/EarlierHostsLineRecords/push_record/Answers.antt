@@ -1,9 +1,13 @@
-use Rattle.ssh_review.proofs.Imports.{asking_of, known_seen}
+use Rattle.ssh_review.proofs.Imports.{◌∙◌, ap, asking_of, known_seen}
+use Rattle.ssh_review.specs.DistinctKeys.{known_line_keys, with_keys}
 use Rattle.ssh_review.proofs.HostStepLemmas.{known-next}
 use Rattle.ssh_review.proofs.host_review.EarlierHostsLineRecords.push_record.Goals as goal
 
-pub returns : goal.returns
-returns c =
+pub returns-clause-noted : goal.returns-clause-noted
+returns-clause-noted c = c.in_ok-counts.ensures.noted ∙ ap (λ said. with_keys c.args.keys.now (known_line_keys said)) c.read_known_view-view.ensures.exact
+
+pub returns-clause-record : goal.returns-clause-record
+returns-clause-record c =
     λ file lines line_reports h.
     let reported = c.in_ok-counts.ensures in
     known-next c.args.form (asking_of c.args.asked.now) c.args.place.now.head.now file c.args.place.now.number c.args.line.now lines (known_seen c.read_known_view-view.result) c.args.self.now c.push_line.new.earlier

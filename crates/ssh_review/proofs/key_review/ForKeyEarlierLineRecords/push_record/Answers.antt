@@ -2,8 +2,8 @@ use Rattle.ssh_review.proofs.Imports.{asking_of, line_seen, refl}
 use Rattle.ssh_review.proofs.StepLemmas.{auth-key-next}
 use Rattle.ssh_review.proofs.key_review.ForKeyEarlierLineRecords.push_record.Goals as goal
 
-pub returns : goal.returns
-returns c =
+pub returns-clause-record : goal.returns-clause-record
+returns-clause-record c =
     λ file lines line_reports h.
     let reported = c.in_ok-reported.ensures in
     auth-key-next c.args.form (asking_of c.args.asked.now) c.args.place.now.head.now file c.args.place.now.number c.args.line.now lines (line_seen c.read_auth_view-view.result) c.args.self.now _
