@@ -203,13 +203,31 @@ fn answer_readable(
     status
 }
 
-/// The words with what they leave out, and the line that says what that is.
-fn read_question(rt: &HostRuntime, words: &[&str]) -> Outcome<(Vec<String<Global>>, Vec<u8>)> {
+/// What is asked: the words with what they leave out, and the line that says what that is.
+type Question = (Vec<String<Global>>, Vec<u8>);
+
+/// The question of these words, which may leave something out.
+fn read_question(rt: &HostRuntime, words: &[&str]) -> Outcome<Question> {
     let known = Known::read(rt, words)?;
     let around = known.as_surroundings();
     let line = defaults_line(rt.alloc(), words, &around)?;
     let reported = with_defaults(rt.alloc(), words, &around)?;
     Ok((reported, line))
+}
+
+/// The answer to a question that was read.
+fn answer_read(
+    rt: &HostRuntime,
+    question: Question,
+    files: &mut Source<'_>,
+    writer: &mut Output<'_>,
+) -> u8 {
+    let (words, line) = question;
+    let status = answer(rt, words.as_slice(), files, writer);
+    if !(status == FAULT && writer.is_usage()) && has_terminal(rt) {
+        tell(rt, &line);
+    }
+    status
 }
 
 /// The answer to a question that may leave something out.
@@ -220,13 +238,7 @@ fn answer_question(
     writer: &mut Output<'_>,
 ) -> u8 {
     match read_question(rt, words) {
-        Ok((reported, line)) => {
-            let status = answer(rt, reported.as_slice(), files, writer);
-            if !(status == FAULT && writer.is_usage()) && has_terminal(rt) {
-                tell(rt, &line);
-            }
-            status
-        }
+        Ok(question) => answer_read(rt, question, files, writer),
         Err(AllocError) => refuse(WordsError::Memory, writer),
     }
 }
@@ -242,26 +254,22 @@ fn answer_no_list(rt: &HostRuntime, name: &str, error: ListError, writer: &mut O
     status
 }
 
-/// The answer to a question with a list of names of these bytes: it is asked with its names.
-fn answer_names<'a>(
+/// The question with the names of the list of this name. The list itself is not kept: what is asked
+/// has a copy of each name, and a list may be long.
+fn read_listed(
     rt: &HostRuntime,
-    words: &'a [String<Global>],
+    words: &[String<Global>],
     name: &str,
-    list: &'a [u8],
     files: &mut Source<'_>,
-    writer: &mut Output<'_>,
-) -> u8 {
-    let texts = match as_texts(rt, words) {
-        Ok(texts) => texts,
-        Err(AllocError) => return refuse(WordsError::Memory, writer),
-    };
-    match with_list(rt.alloc(), texts.as_slice(), list) {
-        Ok(reported) => answer_question(rt, reported.as_slice(), files, writer),
-        Err(error) => answer_no_list(rt, name, error, writer),
-    }
+) -> std::result::Result<Question, ListError> {
+    let list = read_whole(rt.alloc(), files, name)?;
+    let texts = as_texts(rt, words)?;
+    let listed = with_list(rt.alloc(), texts.as_slice(), &list)?;
+    let question = read_question(rt, listed.as_slice())?;
+    Ok(question)
 }
 
-/// The answer to a question with the list of names of this name.
+/// The answer to a question with the list of names of this name: it is asked with its names.
 fn answer_list(
     rt: &HostRuntime,
     words: &[String<Global>],
@@ -269,9 +277,9 @@ fn answer_list(
     files: &mut Source<'_>,
     writer: &mut Output<'_>,
 ) -> u8 {
-    match read_whole(rt.alloc(), files, name) {
-        Ok(list) => answer_names(rt, words, name, &list, files, writer),
-        Err(error) => answer_no_list(rt, name, ListError::from(error), writer),
+    match read_listed(rt, words, name, files) {
+        Ok(question) => answer_read(rt, question, files, writer),
+        Err(error) => answer_no_list(rt, name, error, writer),
     }
 }
 
