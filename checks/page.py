@@ -66,7 +66,8 @@ return {
     total: text(document.querySelector('#files>p:last-child')),
     verdict: [...document.querySelectorAll('.verdict')].map(p => [p.className, text(p)]), tiles: [...document.querySelectorAll('.tiles>li')].map(text), asked: [...document.querySelectorAll('.asked>*')].map(text),
     groups: [...document.querySelectorAll('#mend>h3')].map(h => [h.className, text(h), [...h.nextElementSibling.nextElementSibling.children].map(e =>
-        e.localName == 'dt' ? [text(e.querySelector('.cd')), text(e.querySelector('.n')), e.querySelector('svg').getAttribute('viewBox'), e.querySelector('rect').getAttribute('width'), text(e.querySelector('.mean'))] : text(e))]),
+        e.localName == 'dt' ? [text(e.querySelector('.cd')), text(e.querySelector('.n')), e.querySelector('svg').getAttribute('viewBox'), e.querySelector('rect').getAttribute('width'), text(e.querySelector('.mean'))] : text(e.firstElementChild))]),
+    places: [...document.querySelectorAll('#mend dd')].map(d => [text(d.previousElementSibling.querySelector('.cd')), [...d.children].slice(1).map(p => [p.className, text(p)]), [...d.querySelectorAll('.places>a')].map(a => [a.getAttribute('href'), text(a.querySelector('code')), text(a)])]),
     rest: [...document.querySelectorAll('#mend>p')].filter(p => p.className != 'says' || p.previousElementSibling.localName != 'h3').map(text), absent: [...document.querySelectorAll('#mend>ul>li')].map(text),
 };})()"""
 # The least contrast of a text with its ground, as WCAG 2.2 has it, and which text that is.
@@ -209,6 +210,15 @@ def wrong_classes(read):
             yield file["id"], file["classes"], own
 
 
+def wrong_places(read):
+    """Codes whose places are not each line that has the code, once, in the order of files and lines; of a policy there are none."""
+    for code, paragraphs, links in read["places"]:
+        rows = [(row["id"], file["name"], f"{file['name']}:{row['number']}") for file in read["files"] for row in file["rows"] if code in row["classes"]]
+        wanted = [] if reference_page.SOON[code] == "p" else [[f"#{name}", of_file, words] for name, of_file, words in rows]
+        if links != wanted or paragraphs != [["places", " ".join(words for *_, words in wanted)]] * bool(wanted):
+            yield code, links, wanted
+
+
 def header_rows(read, asked):
     """What is said above the lines, by what stands at them."""
     found, total, codes = counted(read), asked.objects[-1], reference_page.CODES[asked.kind]
@@ -229,6 +239,7 @@ def header_rows(read, asked):
     yield "how often, and what each means", sorted(item for _, _, items in read["groups"] for item in items[::2]), sorted(bars)
     does = {item[0]: text for _, _, items in read["groups"] for item, text in zip(items[::2], items[1::2])}
     yield "what to do", does, {code: f"What to do: {reference_page.REMEDIES[code]}." for code in found}
+    yield "the places of each code", list(wrong_places(read)), []
     yield "the codes that were not found", read["absent"], [f"{code}: {reference_page.MEANS[code]}" for code in looked_for if not found[code]]
     left_out = [code for code in codes if code not in looked_for]
     rest = ["Nothing."] * good + ["Looked for in every line, and not found:"] * bool(set(looked_for) - set(found))
@@ -326,7 +337,12 @@ WRONG = (
     ("a good verdict where a file was not read", 'if total["faults"] or total["findings"]', 'if total["lines"] > 1000'),
     ("fewer findings of today", 'if SOON[code] == "a")', 'if code == "F1")'),
     ("a code that was found is left out", "and code in found]", 'and code in found and code != "F9"]'),
-    ("how often another code was found", "put_found(page, code, found[code], total)", 'put_found(page, code, found["F1"], total)'),
+    ("how often another code was found", "put_found(page, code, found[code], total", 'put_found(page, code, found["F1"], total'),
+    ("the places of another code", "total, places[code])", 'total, places["F1"])'),
+    ("the place of another file", 'page.put("PlaceFile").say(file)', 'page.put("PlaceFile").say(max(file - 1, 0))'),
+    ("the place of the line before", 'page.put("PlaceFile").say(file).put("LineId").say(line)', 'page.put("PlaceFile").say(file).put("LineId").say(max(line - 1, 1))'),
+    ("the name of another file", 'places[code].append((end["file"], number', 'places[code].append((files[0][1]["file"], number'),
+    ("a place is left out", 'put_places(page, [] if SOON[code] == "p" else places)', 'put_places(page, [] if SOON[code] == "p" else places[:-1])'),
     ("what to do about another code", "say(REMEDIES[code])", 'say(REMEDIES["F3"])'),
     ("a code that was found is not found", "if code not in found]", 'if code not in found or code == "F9"]'),
     ("another code was looked for", 'if code in total["told"]]', 'if code in total["told"] or code == "F15"]'),

@@ -200,6 +200,10 @@ PIECES = {
     "FoundMeans": '" height="1"></rect></svg> <span class="mean">',
     "FoundRemedy": "</span></dt>\n<dd><p>What to do: ",
     "FoundEnd": ".</p></dd>\n",
+    # its places
+    "Places": '.</p><p class="places">',
+    "PlaceFile": '<a href="#f',
+    "PlacesEnd": "</p></dd>\n",
     "NothingToMend": "<p>Nothing.</p>\n",
     "MendEnd": "</section>\n",
     "Absent": '<p class="says">Looked for in every line, and not found:</p>\n<ul>\n',
@@ -466,19 +470,43 @@ def put_asked(page, total, looked_for):
     page.put("HeaderEnd")
 
 
-def put_found(page, code, number, total):
+def put_place(page, name, file, line):
+    page.put("PlaceFile").say(file).put("LineId").say(line).put("FileName").tell(name).say(f":{line}").put("LinkEnd")
+
+
+def put_places(page, places):
+    """The end of a code that was found, with a link to each of its places, if there are any."""
+    page.put("Places" if places else "FoundEnd")
+    for number, (name, file, line) in enumerate(places):
+        page.say(" " if number else "")
+        put_place(page, name, file, line)
+    page.put(*["PlacesEnd"] * bool(places))
+
+
+def put_found(page, code, number, total, places):
     page.put("FoundCode").say(code).put("FoundCount").say(number).put("FoundBar").say(total["findings"]).put("FoundBarLength").say(number)
-    page.put("FoundMeans").say(MEANS[code]).put("FoundRemedy").say(REMEDIES[code]).put("FoundEnd")
+    page.put("FoundMeans").say(MEANS[code]).put("FoundRemedy").say(REMEDIES[code])
+    put_places(page, [] if SOON[code] == "p" else places)
 
 
-def put_mend(page, total, found, looked_for):
+def places_of(files):
+    """Each line that has a code, in the order of files and lines, for each code: the name of its file, the file's number, and its own."""
+    places = collections.defaultdict(list)
+    for number, (records, end) in enumerate(files):
+        for made in records:
+            for code in {found["code"] for found in made["findings"]}:
+                places[code].append((end["file"], number, made["line"]))
+    return places
+
+
+def put_mend(page, total, found, looked_for, places):
     """What was found, by how soon; what was looked for and not found; what was not looked for."""
     page.put("Mend")
     for letter, _, _ in GROUPS:
         codes = [code for code in CODES[total["kind"]] if SOON[code] == letter and code in found]
         page.put(*[f"{letter} group"] * bool(codes))
         for code in codes:
-            put_found(page, code, found[code], total)
+            put_found(page, code, found[code], total, places[code])
         page.put(*["GroupEnd"] * bool(codes))
     if not total["faults"] and not found:
         page.put("NothingToMend")
@@ -493,7 +521,7 @@ def put_mend(page, total, found, looked_for):
     page.put("MendEnd")
 
 
-def put_front(page, objects, total):
+def put_front(page, objects, total, files):
     """All that comes before the lines of the first file."""
     found = collections.Counter(one["code"] for made in objects if made["what"] != "end" for one in made["findings"])
     looked_for = [code for code in CODES[total["kind"]] if code in total["told"]]
@@ -501,7 +529,7 @@ def put_front(page, objects, total):
     put_verdict(page, total, today, looked_for)
     put_tiles(page, total, today)
     put_asked(page, total, looked_for)
-    put_mend(page, total, found, looked_for)
+    put_mend(page, total, found, looked_for, places_of(files))
 
 
 # ---- the page
@@ -520,7 +548,7 @@ def page_of(objects, title=None):
             records.append(made)
     heading, page = escaped((TITLES[kind] if title is None else title).encode()), Page()
     page.put("Front").say(heading).put("StyleStart", "Style", "StyleEnd").say(heading).put("HeadingEnd")
-    put_front(page, objects, total)
+    put_front(page, objects, total, files)
     page.put("Lines")
     for number, (records, end) in enumerate(files):
         put_section(page, number, records, end, kind)

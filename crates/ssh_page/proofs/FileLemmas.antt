@@ -10,7 +10,7 @@ use Rattle.ssh_page.specs.declared.piece.Piece.TheVariants as piece
 use Rattle.ssh_page.specs.Documents.{Document, put, say, after, ◌&◌}
 use Rattle.ssh_page.specs.Files.{ClassesSeen, FileSeen, count_cells, counts_part, empty_section, fault_row, fault_section, fault_words, file_link, file_row, register, register_end, section, section_classes, section_head, section_name, table_piece}
 use Rattle.ssh_page.specs.Mending.{mend}
-use Rattle.ssh_page.specs.Pages.{header, page_end, page_start, whole_page}
+use Rattle.ssh_page.specs.Pages.{header, page_lines, page_end, page_start, whole_page}
 use Rattle.ssh_page.specs.Questions.{QuestionSeen}
 use Rattle.ssh_page.specs.Tags.{within, valued}
 use Rattle.ssh_page.specs.Classes.{class_of}
@@ -133,12 +133,12 @@ page_end_leads : Leads (within sections) page_end (within [])
 unfolding page_end
 page_end_leads = record { by = refl }
 
-pub page_closes : (title : List ℕ) (q : QuestionSeen) (t : PageTotals) (found : List CodeCount) (files rows : Document) (total : List ℕ)
+pub page_closes : (title : List ℕ) (q : QuestionSeen) (t : PageTotals) (found : List CodeCount) (names : List (List ℕ)) (files rows : Document) (total : List ℕ)
     → ((inner : Open) → after (within inner) files ≡ within inner) → ((inner : Open) → after (within inner) rows ≡ within inner)
-    → Leads (within []) (whole_page title q t found files rows total) (within [])
-page_closes title q t found files rows total h k =
+    → Leads (within []) (whole_page title q t found names files rows total) (within [])
+page_closes title q t found names files rows total h k =
     let lines : Open = codes "div" ∷ codes "section" ∷ sections in
     let middle : Leads (within lines) files (within lines) = record { by = h lines } in
     let head : Leads (within []) (page_start title & header q t) (within sections) = next (start_leads title) (header_leads q t) in
-    let front : Leads (within []) (page_start title & header q t & mend q t found) (within sections) = next head (mend_stays sections q t found) in
+    let front : Leads (within []) (page_start title & header q t & mend q t found (page_lines names files)) (within sections) = next head (mend_stays sections q t found (page_lines names files)) in
     next (next (next (next (next front (here (within sections) (put piece.Lines))) middle) (here (within lines) (put piece.LinesEnd))) (register_stays sections rows total k)) page_end_leads

@@ -1,7 +1,11 @@
--- No text of a file stands in the header of the page, nor in what has to be mended.
-use Rattle.std.proofs.Common.{◌≡◌, ◌++◌, ◌==◌, Bool, true, false, cond, List, [], ℕ, length, refl}
+-- No text of a file stands in the header of the page, and only names of files in what has to be mended.
+use Rattle.std.proofs.Common.{◌≡◌, ◌∙◌, ◌++◌, ◌==◌, Bool, true, false, cond, List, [], ◌∷◌, ℕ, length, refl, ap, sym}
 use Rattle.std.specs.Fmt.{decimal}
 use Rattle.std.specs.Prelude.{codes, pos}
+use Rattle.std.specs.List.{flat_map}
+use Rattle.std.proofs.lemmas.Bool.{eqb-true}
+use Rattle.std.proofs.lemmas.Grind.{flat_map-append}
+use Rattle.std.proofs.lemmas.List.{nil_from_length}
 use Rattle.ssh_findings.specs.declared.code.Code.{Code}
 use Rattle.ssh_print.specs.AnswerText.{sentence}
 use Rattle.ssh_print.specs.Dates.{moment_text}
@@ -12,11 +16,13 @@ use Rattle.ssh_page.specs.declared.mend.CodeCount.{CodeCount}
 use Rattle.ssh_page.specs.declared.piece.Piece.TheVariants as piece
 use Rattle.ssh_page.specs.Documents.{nothing, put, say, count, each, texts_of, ◌&◌}
 use Rattle.ssh_page.specs.Headers.{asked, code_list, code_word, found_part, how_many, kind_words, looked_for_part, none_found, term, tile, tiles, verdict, verdict_piece}
-use Rattle.ssh_page.specs.Mending.{absent, absent_code, absent_part, found_code, found_head, group, group_piece, is_clean, left_out_part, mend, urgent}
+use Rattle.ssh_page.specs.declared.record.RowPlace.{RowPlace}
+use Rattle.ssh_page.specs.Mending.{absent, absent_code, absent_part, code_names, found_code, found_head, group, group_piece, is_clean, left_out_part, means, mend, mend_names, remedy, urgent}
 use Rattle.ssh_page.specs.Pages.{header}
+use Rattle.ssh_page.specs.Places.{LinesSeen, listed_places, name_at, names_of, next_link, place_link, places_part}
 use Rattle.ssh_page.specs.Questions.{QuestionSeen, left_out, looked_for}
 use Rattle.ssh_page.proofs.EachLemmas.{each_textless}
-use Rattle.ssh_page.proofs.TextLemmas.{HasTexts, past, piece_none, say_none, if_none}
+use Rattle.ssh_page.proofs.TextLemmas.{HasTexts, has, past, upto, piece_none, say_none, if_none}
 
 -- ---- the header
 
@@ -91,20 +97,56 @@ header_none q t = past (past (verdict_none q t) (tiles_none t)) (asked_none q)
 
 -- ---- what has to be mended
 
-code-none : (all : ℕ) (f : CodeCount) → texts_of (found_code all f) ≡ []
-unfolding found_code found_head
-code-none all f = refl
+link_has : (names : List (List ℕ)) (p : RowPlace) → HasTexts (place_link names p) (name_at names p.file ∷ [])
+unfolding place_link
+link_has names p = record { by = refl }
 
-headed-none : (b : Bool) (urgency : Urgency) (all : ℕ) (chosen : List CodeCount)
-    → texts_of (cond b nothing (put (group_piece urgency) & each (found_code all) chosen & put piece.GroupEnd)) ≡ []
-headed-none true urgency all chosen = refl
-headed-none false urgency all chosen =
-    let inner : HasTexts (each (found_code all) chosen) [] = record { by = each_textless (found_code all) (code-none all) chosen } in
-    (past (past (piece_none (group_piece urgency)) inner) (piece_none piece.GroupEnd)).by
+next_has : (names : List (List ℕ)) (p : RowPlace) → HasTexts (next_link names p) (name_at names p.file ∷ [])
+unfolding next_link
+next_has names p = past (say_none (codes " ")) (link_has names p)
 
-group_none : (urgency : Urgency) (all : ℕ) (found : List CodeCount) → HasTexts (group urgency all found) []
+links-have : (names : List (List ℕ)) (ps : List RowPlace) → texts_of (each (next_link names) ps) ≡ names_of names ps
+links-have names [] = refl
+links-have names (p ∷ ps) =
+    ap (λ texts. texts ++ texts_of (each (next_link names) ps)) (next_has names p).by
+    ∙ ap (λ texts. name_at names p.file ∷ texts) (links-have names ps)
+
+places_have : (names : List (List ℕ)) (ps : List RowPlace) → HasTexts (places_part names ps) (names_of names ps)
+places_have names [] = piece_none piece.FoundEnd
+places_have names (p ∷ ps) =
+    let links : HasTexts (each (next_link names) ps) (names_of names ps) = record { by = links-have names ps } in
+    upto (has (past (piece_none piece.Places) (link_has names p)) links) (piece_none piece.PlacesEnd)
+
+remedy_none : (all : ℕ) (f : CodeCount) → HasTexts (found_head all f & say (means f.code) & put piece.FoundRemedy & say (remedy f.code)) []
+unfolding found_head
+remedy_none all f = record { by = refl }
+
+code_has : (all : ℕ) (l : LinesSeen) (f : CodeCount) → HasTexts (found_code all l f) (code_names l f)
+unfolding found_code
+code_has all l f = past (remedy_none all f) (places_have l.names (listed_places l f.code))
+
+codes-have : (all : ℕ) (l : LinesSeen) (fs : List CodeCount) → texts_of (each (found_code all l) fs) ≡ flat_map (code_names l) fs
+codes-have all l [] = refl
+codes-have all l (f ∷ fs) =
+    ap (λ texts. texts ++ texts_of (each (found_code all l) fs)) (code_has all l f).by
+    ∙ ap (λ texts. code_names l f ++ texts) (codes-have all l fs)
+
+headed-has : (b : Bool) (urgency : Urgency) (all : ℕ) (l : LinesSeen) (chosen : List CodeCount) → (length chosen == 0) ≡ b
+    → texts_of (cond b nothing (put (group_piece urgency) & each (found_code all l) chosen & put piece.GroupEnd)) ≡ flat_map (code_names l) chosen
+headed-has true urgency all l chosen e = sym (ap (flat_map (code_names l)) (nil_from_length chosen (eqb-true (length chosen) 0 e)))
+headed-has false urgency all l chosen e =
+    let inner : HasTexts (each (found_code all l) chosen) (flat_map (code_names l) chosen) = record { by = codes-have all l chosen } in
+    (upto (past (piece_none (group_piece urgency)) inner) (piece_none piece.GroupEnd)).by
+
+group_has : (urgency : Urgency) (all : ℕ) (l : LinesSeen) (found : List CodeCount) → HasTexts (group urgency all l found) (flat_map (code_names l) (urgent urgency found))
 unfolding group
-group_none urgency all found = record { by = headed-none (length (urgent urgency found) == 0) urgency all (urgent urgency found) }
+group_has urgency all l found = record { by = headed-has (length (urgent urgency found) == 0) urgency all l (urgent urgency found) refl }
+
+all-groups : (names : CodeCount → List (List ℕ)) (a b c d : List CodeCount) → flat_map names a ++ flat_map names b ++ flat_map names c ++ flat_map names d ≡ flat_map names (a ++ b ++ c ++ d)
+all-groups names a b c d =
+    ap (λ texts. texts ++ flat_map names c ++ flat_map names d) (sym (flat_map-append names a b))
+    ∙ ap (λ texts. texts ++ flat_map names d) (sym (flat_map-append names (a ++ b) c))
+    ∙ sym (flat_map-append names (a ++ b ++ c) d)
 
 absent-code-none : (c : Code) → texts_of (absent_code c) ≡ []
 unfolding absent_code
@@ -130,10 +172,11 @@ left_out_none : (cs : List Code) → HasTexts (left_out_part cs) []
 unfolding left_out_part
 left_out_none cs = record { by = left-out-none (length cs == 0) cs }
 
-pub mend_none : (q : QuestionSeen) (t : PageTotals) (found : List CodeCount) → HasTexts (mend q t found) []
+pub mend_has : (q : QuestionSeen) (t : PageTotals) (found : List CodeCount) (l : LinesSeen) → HasTexts (mend q t found l) (mend_names l found)
 unfolding mend
-mend_none q t found =
-    let one = λ (urgency : Urgency). group_none urgency t.findings found in
-    let groups = past (past (past (past (piece_none piece.Mend) (one Today)) (one Soon)) (one TidyUp)) (one Policy) in
-    let clean = past groups (if_none (is_clean t found) piece.NothingToMend) in
-    past (past (past clean (absent_none (absent q found))) (left_out_none (left_out q))) (piece_none piece.MendEnd)
+mend_has q t found l =
+    let one = λ (urgency : Urgency). group_has urgency t.findings l found in
+    let groups = has (has (has (past (piece_none piece.Mend) (one Today)) (one Soon)) (one TidyUp)) (one Policy) in
+    let clean = upto groups (if_none (is_clean t found) piece.NothingToMend) in
+    let all = upto (upto (upto clean (absent_none (absent q found))) (left_out_none (left_out q))) (piece_none piece.MendEnd) in
+    record { by = all.by ∙ all-groups (code_names l) (urgent Today found) (urgent Soon found) (urgent TidyUp found) (urgent Policy found) }

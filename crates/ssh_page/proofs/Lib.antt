@@ -13,4 +13,6 @@ pub mod MendLemmas
 pub mod FileLemmas
 pub mod ShapeLemmas
 pub mod TextLemmas
+pub mod FoundRowLemmas
+pub mod ScanLemmas
 pub mod HeadTextLemmas

@@ -15,8 +15,10 @@ use Rattle.ssh_page.specs.declared.header.PageTotals.{PageTotals}
 use Rattle.ssh_page.specs.declared.mend.CodeCount.{CodeCount}
 use Rattle.ssh_page.specs.declared.piece.Piece.TheVariants as piece
 use Rattle.ssh_page.specs.Documents.{nothing, put, say, each, after, ◌&◌}
+use Rattle.ssh_page.specs.declared.record.RowPlace.{RowPlace}
 use Rattle.ssh_page.specs.Headers.{code_word}
-use Rattle.ssh_page.specs.Mending.{absent, absent_code, absent_part, found_code, found_head, group, group_piece, is_clean, left_out_part, mend, urgent}
+use Rattle.ssh_page.specs.Mending.{absent, absent_code, absent_part, found_code, found_head, group, group_piece, is_clean, left_out_part, means, mend, remedy, urgent}
+use Rattle.ssh_page.specs.Places.{LinesSeen, listed_places, next_link, place_link, places_part}
 use Rattle.ssh_page.specs.Questions.{QuestionSeen, left_out}
 use Rattle.ssh_page.specs.Tags.{within}
 use Rattle.ssh_page.proofs.HeaderLemmas.{words_stay}
@@ -66,9 +68,31 @@ code_is_text c = IsUtf8-from_ascii (code_text c) (ascii (code_text c) (code-asci
 
 -- ---- codes that were found
 
-found_stays : (opened : Open) (all : ℕ) (f : CodeCount) → Leads (within opened) (found_code all f) (within opened)
-unfolding found_code found_head
-found_stays opened all f = record { by = refl }
+link_stays : (opened : Open) (names : List (List ℕ)) (p : RowPlace) → Leads (within opened) (place_link names p) (within opened)
+unfolding place_link
+link_stays opened names p = record { by = refl }
+
+next_stays : (opened : Open) (names : List (List ℕ)) (p : RowPlace) → Leads (within opened) (next_link names p) (within opened)
+unfolding next_link
+next_stays opened names p = next (here (within opened) (say (codes " "))) (link_stays opened names p)
+
+-- the paragraph of a remedy is open before it
+places_lead : (opened : Open) (names : List (List ℕ)) (ps : List RowPlace)
+    → Leads (within (codes "p" ∷ codes "dd" ∷ opened)) (places_part names ps) (within opened)
+places_lead opened names [] = record { by = refl }
+places_lead opened names (p ∷ ps) =
+    let inner = codes "p" ∷ codes "dd" ∷ opened in
+    let links = all_stay (within inner) (next_link names) (next_stays inner names) ps in
+    next (next (next (here (within inner) (put piece.Places)) (link_stays inner names p)) links) (here (within inner) (put piece.PlacesEnd))
+
+remedy_leads : (opened : Open) (all : ℕ) (f : CodeCount)
+    → Leads (within opened) (found_head all f & say (means f.code) & put piece.FoundRemedy & say (remedy f.code)) (within (codes "p" ∷ codes "dd" ∷ opened))
+unfolding found_head
+remedy_leads opened all f = record { by = refl }
+
+found_stays : (opened : Open) (all : ℕ) (l : LinesSeen) (f : CodeCount) → Leads (within opened) (found_code all l f) (within opened)
+unfolding found_code
+found_stays opened all l f = next (remedy_leads opened all f) (places_lead opened l.names (listed_places l f.code))
 
 group_leads : (opened : Open) (urgency : Urgency) → Leads (within opened) (put (group_piece urgency)) (within (codes "dl" ∷ opened))
 group_leads opened Today = record { by = refl }
@@ -76,20 +100,20 @@ group_leads opened Soon = record { by = refl }
 group_leads opened TidyUp = record { by = refl }
 group_leads opened Policy = record { by = refl }
 
-headed-by : (b : Bool) (opened : Open) (urgency : Urgency) (all : ℕ) (chosen : List CodeCount)
-    → after (within opened) (cond b nothing (put (group_piece urgency) & each (found_code all) chosen & put piece.GroupEnd)) ≡ within opened
-headed-by true opened urgency all chosen = refl
-headed-by false opened urgency all chosen =
+headed-by : (b : Bool) (opened : Open) (urgency : Urgency) (all : ℕ) (l : LinesSeen) (chosen : List CodeCount)
+    → after (within opened) (cond b nothing (put (group_piece urgency) & each (found_code all l) chosen & put piece.GroupEnd)) ≡ within opened
+headed-by true opened urgency all l chosen = refl
+headed-by false opened urgency all l chosen =
     let dl = codes "dl" ∷ opened in
-    let codes_stay : Leads (within dl) (each (found_code all) chosen) (within dl) = all_stay (within dl) (found_code all) (found_stays dl all) chosen in
-    let whole : Leads (within opened) (put (group_piece urgency) & each (found_code all) chosen & put piece.GroupEnd) (within opened) =
+    let codes_stay : Leads (within dl) (each (found_code all l) chosen) (within dl) = all_stay (within dl) (found_code all l) (found_stays dl all l) chosen in
+    let whole : Leads (within opened) (put (group_piece urgency) & each (found_code all l) chosen & put piece.GroupEnd) (within opened) =
     next (next (group_leads opened urgency) codes_stay) (here (within dl) (put piece.GroupEnd)) in
     whole.by
 
-group_stays : (opened : Open) (urgency : Urgency) (all : ℕ) (found : List CodeCount) → Leads (within opened) (group urgency all found) (within opened)
+group_stays : (opened : Open) (urgency : Urgency) (all : ℕ) (l : LinesSeen) (found : List CodeCount) → Leads (within opened) (group urgency all l found) (within opened)
 unfolding group
-group_stays opened urgency all found =
-    record { by = headed-by (length (urgent urgency found) == 0) opened urgency all (urgent urgency found) }
+group_stays opened urgency all l found =
+    record { by = headed-by (length (urgent urgency found) == 0) opened urgency all l (urgent urgency found) }
 
 -- ---- codes that were not found, or not looked for
 
@@ -127,12 +151,12 @@ left_out_stays opened cs = record { by = left-out-by (length cs == 0) opened cs 
 
 -- ---- the section
 
-pub mend_stays : (opened : Open) (q : QuestionSeen) (t : PageTotals) (found : List CodeCount)
-    → Leads (within opened) (mend q t found) (within opened)
+pub mend_stays : (opened : Open) (q : QuestionSeen) (t : PageTotals) (found : List CodeCount) (l : LinesSeen)
+    → Leads (within opened) (mend q t found l) (within opened)
 unfolding mend
-mend_stays opened q t found =
+mend_stays opened q t found l =
     let inner = codes "section" ∷ opened in
-    let one = λ (urgency : Urgency). group_stays inner urgency t.findings found in
+    let one = λ (urgency : Urgency). group_stays inner urgency t.findings l found in
     let groups = next (next (next (next (here (within opened) (put piece.Mend)) (one Today)) (one Soon)) (one TidyUp)) (one Policy) in
     let clean = next groups (may_stay (within inner) piece.NothingToMend (is_clean t found) (record { by = refl })) in
     next (next (next clean (absent_part_stays inner (absent q found))) (left_out_stays inner (left_out q))) (here (within inner) (put piece.MendEnd))

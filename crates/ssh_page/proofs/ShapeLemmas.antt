@@ -1,5 +1,5 @@
--- The pieces of a row hang on no text.
-use Rattle.std.proofs.Common.{◌≡◌, ◌∙◌, ℕ, ◌==◌, Bool, true, ◌&&◌, List, [], ◌∷◌, ◌++◌, length, map, refl, ap, sym}
+-- The pieces of a row hang on no text, and those of what has to be mended on no name of a file.
+use Rattle.std.proofs.Common.{◌≡◌, ◌∙◌, ℕ, ◌==◌, Bool, true, false, cond, ◌&&◌, List, [], ◌∷◌, ◌++◌, length, map, refl, ap, sym}
 use Rattle.std.specs.Prelude.{Option, Some, None, codes, is_none, option_map}
 use Rattle.std.proofs.lemmas.List.{length-map}
 use Rattle.ssh_findings.specs.declared.facts.Facts.{Facts}
@@ -12,8 +12,15 @@ use Rattle.ssh_rights.specs.declared.rights.Carried.{Carried}
 use Rattle.ssh_rights.specs.declared.rights.Rights.{Rights}
 use Rattle.ssh_page.specs.declared.piece.Piece.TheVariants as piece
 use Rattle.ssh_page.specs.declared.record.RowPlace.{RowPlace}
-use Rattle.ssh_page.specs.Documents.{Document, put, say, each, pieces_of, ◌&◌}
+use Rattle.ssh_findings.specs.declared.urgency.Urgency.{Urgency}
+use Rattle.ssh_findings.specs.declared.urgency.Urgency.TheVariants.{Today, Soon, TidyUp, Policy}
+use Rattle.ssh_page.specs.declared.header.PageTotals.{PageTotals}
+use Rattle.ssh_page.specs.declared.mend.CodeCount.{CodeCount}
+use Rattle.ssh_page.specs.Documents.{Document, nothing, put, say, each, pieces_of, ◌&◌}
 use Rattle.ssh_page.specs.HostRecords.{host_cells, host_entry_row, revoked_cells, revoked_row, role}
+use Rattle.ssh_page.specs.Mending.{absent, absent_part, found_code, found_head, group, group_piece, is_clean, left_out_part, means, mend, remedy, urgent}
+use Rattle.ssh_page.specs.Places.{LinesSeen, listed_places, next_link, place_link, places_part, renamed}
+use Rattle.ssh_page.specs.Questions.{QuestionSeen, left_out}
 use Rattle.ssh_page.specs.Records.{all_limits, carried_part, command_part, comment_part, entry_cells, entry_row, flag_part, is_free, is_free_of_flags, key_part, limits_part, put_if, right_marks, rights_part, row_classes, row_findings, row_numbers, setting_part, until_part}
 use Rattle.ssh_page.specs.StandIns.{carried_stand_in, facts_stand_in, host_stand_in, rights_stand_in, stand_in}
 
@@ -114,3 +121,51 @@ unfolding revoked_row
 revoked_shape place fingerprint names found =
     let names_shape : SameShape (setting_part (codes "names ") (Some names)) (setting_part (codes "names ") (Some [])) = record { by = refl } in
     join (join (join (join (join (join (join (like (put piece.Row)) (like (row_classes host_row found))) (like (row_numbers place))) (like (revoked_cells fingerprint))) names_shape) (like (flag_part true (codes "in ssh it counts for these names alone")))) (like (row_findings place host_row found))) (like (put piece.RowEnd))
+
+-- ---- what has to be mended
+
+link_shape : (names other : List (List ℕ)) (p : RowPlace) → SameShape (place_link names p) (place_link other p)
+unfolding place_link
+link_shape names other p = record { by = refl }
+
+next_shape : (names other : List (List ℕ)) (p : RowPlace) → SameShape (next_link names p) (next_link other p)
+unfolding next_link
+next_shape names other p = join (like (say (codes " "))) (link_shape names other p)
+
+each-shape : {A : Type 0} (part other : A → Document) → ((x : A) → SameShape (part x) (other x)) → (xs : List A) → pieces_of (each part xs) ≡ pieces_of (each other xs)
+each-shape part other h [] = refl
+each-shape part other h (x ∷ xs) =
+    ap (λ ps. ps ++ pieces_of (each part xs)) (h x).by ∙ ap (λ ps. pieces_of (other x) ++ ps) (each-shape part other h xs)
+
+each_shape : {A : Type 0} (part other : A → Document) → ((x : A) → SameShape (part x) (other x)) → (xs : List A) → SameShape (each part xs) (each other xs)
+each_shape part other h xs = record { by = each-shape part other h xs }
+
+places_shape : (names other : List (List ℕ)) (ps : List RowPlace) → SameShape (places_part names ps) (places_part other ps)
+places_shape names other [] = record { by = refl }
+places_shape names other (p ∷ ps) =
+    join (join (join (like (put piece.Places)) (link_shape names other p)) (each_shape (next_link names) (next_link other) (next_shape names other) ps)) (like (put piece.PlacesEnd))
+
+found_shape : (all : ℕ) (names : List (List ℕ)) (l : LinesSeen) (f : CodeCount) → SameShape (found_code all l f) (found_code all (renamed names l) f)
+unfolding found_code
+found_shape all names l f =
+    join (like (found_head all f & say (means f.code) & put piece.FoundRemedy & say (remedy f.code))) (places_shape l.names names (listed_places l f.code))
+
+headed-shape : (b : Bool) (urgency : Urgency) (all : ℕ) (names : List (List ℕ)) (l : LinesSeen) (chosen : List CodeCount)
+    → SameShape (cond b nothing (put (group_piece urgency) & each (found_code all l) chosen & put piece.GroupEnd))
+    (cond b nothing (put (group_piece urgency) & each (found_code all (renamed names l)) chosen & put piece.GroupEnd))
+headed-shape true urgency all names l chosen = record { by = refl }
+headed-shape false urgency all names l chosen =
+    join (join (like (put (group_piece urgency))) (each_shape (found_code all l) (found_code all (renamed names l)) (found_shape all names l) chosen)) (like (put piece.GroupEnd))
+
+group_shape : (urgency : Urgency) (all : ℕ) (names : List (List ℕ)) (l : LinesSeen) (found : List CodeCount) → SameShape (group urgency all l found) (group urgency all (renamed names l) found)
+unfolding group
+group_shape urgency all names l found = headed-shape (length (urgent urgency found) == 0) urgency all names l (urgent urgency found)
+
+pub mend_shape : (q : QuestionSeen) (t : PageTotals) (found : List CodeCount) (l : LinesSeen) (names : List (List ℕ))
+    → SameShape (mend q t found l) (mend q t found (renamed names l))
+unfolding mend
+mend_shape q t found l names =
+    let one = λ (urgency : Urgency). group_shape urgency t.findings names l found in
+    let groups = join (join (join (join (like (put piece.Mend)) (one Today)) (one Soon)) (one TidyUp)) (one Policy) in
+    let clean = join groups (like (put_if (is_clean t found) piece.NothingToMend)) in
+    join (join (join clean (like (absent_part (absent q found)))) (like (left_out_part (left_out q)))) (like (put piece.MendEnd))

@@ -13,3 +13,10 @@ text_at texts n x h e =
 pub no_text : (texts : List (Bor (List ℕ))) (n : ℕ) → length texts ≤ n
     → unwrap_or (slice_get (map (λ (t : Bor (List ℕ)). t.now) texts) n) [] ≡ []
 no_text texts n h = rw (slice_get-map (λ (t : Bor (List ℕ)). t.now) texts n, slice_get_past texts n h) refl
+
+-- the name of a number
+pub name_of : (names : List (List ℕ)) (n : ℕ) (x : List ℕ) → n < length names → x ≡ get_or names n x → unwrap_or (slice_get names n) [] ≡ x
+name_of names n x h e = rw (slice_get-get_or names n x h) (sym e)
+
+pub no_name : (names : List (List ℕ)) (n : ℕ) → length names ≤ n → unwrap_or (slice_get names n) [] ≡ []
+no_name names n h = rw (slice_get_past names n h) refl

@@ -34,14 +34,14 @@ use Rattle.ssh_page.proofs.EachLemmas.{each_textless}
 pub record HasTexts (d : Document) (texts : List (List ℕ)) : Type 0 where
   pub by : texts_of d ≡ texts
 
-has : {a b : Document} {s t : List (List ℕ)} → HasTexts a s → HasTexts b t → HasTexts (a & b) (s ++ t)
+pub has : {a b : Document} {s t : List (List ℕ)} → HasTexts a s → HasTexts b t → HasTexts (a & b) (s ++ t)
 has {a} {b} {s} {t} h k = record { by = ap (λ texts. texts ++ texts_of b) h.by ∙ ap (λ texts. s ++ texts) k.by }
 
 -- the same after a part without texts, and before one
 pub past : {a b : Document} {t : List (List ℕ)} → HasTexts a [] → HasTexts b t → HasTexts (a & b) t
 past h k = has h k
 
-upto : {a b : Document} {s : List (List ℕ)} → HasTexts a s → HasTexts b [] → HasTexts (a & b) s
+pub upto : {a b : Document} {s : List (List ℕ)} → HasTexts a s → HasTexts b [] → HasTexts (a & b) s
 upto {a} {b} {s} h k = record { by = (has h k).by ∙ append-nil s }
 
 pub piece_none : (p : Piece) → HasTexts (put p) []

@@ -11,6 +11,8 @@ pub mod HostRecords
 pub mod Files
 pub mod Questions
 pub mod Headers
+pub mod FoundRows
+pub mod Places
 pub mod Mending
 pub mod Pages
 pub mod StandIns

@@ -1,7 +1,7 @@
--- What has to be mended (this project's rule): the codes that were found, by how soon; those that were looked for and not found;
--- and those that were not looked for.
-use Rattle.std.specs.Prelude.{◌==◌, ◌&&◌, [], ℕ, Bool, not, List, length, Option, Some, None, codes, filter, if◌then◌else◌}
-use Rattle.std.specs.List.{list_any}
+-- What has to be mended (this project's rule): the codes that were found, by how soon, with the lines that have them; those that
+-- were looked for and not found; and those that were not looked for.
+use Rattle.std.specs.Prelude.{◌++◌, ◌==◌, ◌&&◌, [], ℕ, Bool, not, List, length, Option, Some, None, codes, filter, if◌then◌else◌}
+use Rattle.std.specs.List.{flat_map, list_any}
 use Rattle.ssh_findings.specs.Codes.{code_text, same_code}
 use Rattle.ssh_findings.specs.declared.code.Code.{Code}
 use Rattle.ssh_print.specs.AnswerText.{sentence}
@@ -15,6 +15,7 @@ use Rattle.ssh_page.specs.declared.piece.Piece.{Piece}
 use Rattle.ssh_page.specs.declared.piece.Piece.TheVariants as piece
 use Rattle.ssh_page.specs.Documents.{Document, nothing, put, say, count, each, ◌&◌}
 use Rattle.ssh_page.specs.Headers.{code_word}
+use Rattle.ssh_page.specs.Places.{LinesSeen, listed_places, names_of, places_part}
 use Rattle.ssh_page.specs.Questions.{QuestionSeen, left_out, looked_for}
 use Rattle.ssh_page.specs.Records.{put_if}
 
@@ -38,10 +39,11 @@ found_head all f =
     put piece.FoundCode & say (code_text f.code) & put piece.FoundCount & count f.count & put piece.FoundBar & count all
     & put piece.FoundBarLength & count f.count & put piece.FoundMeans
 
--- a code that was found, of so many findings in all: what it means, and what to do
-unfoldable pub found_code : ℕ → CodeCount → Document
-found_code all f =
-    found_head all f & say (means f.code) & put piece.FoundRemedy & say (remedy f.code) & put piece.FoundEnd
+-- a code that was found, of so many findings in all: what it means, what to do, and the lines that have it
+unfoldable pub found_code : ℕ → LinesSeen → CodeCount → Document
+found_code all l f =
+    found_head all f & say (means f.code) & put piece.FoundRemedy & say (remedy f.code)
+    & places_part l.names (listed_places l f.code)
 
 -- ---- the codes that are equally urgent
 
@@ -60,13 +62,13 @@ group_piece TidyUp = piece.TidyGroup
 group_piece Policy = piece.PolicyGroup
 
 -- a heading and these codes, if there are any
-abbrev pub headed : Urgency → ℕ → List CodeCount → Document
-headed urgency all chosen =
+abbrev pub headed : Urgency → ℕ → LinesSeen → List CodeCount → Document
+headed urgency all l chosen =
     if length chosen == 0 then nothing
-    else put (group_piece urgency) & each (found_code all) chosen & put piece.GroupEnd
+    else put (group_piece urgency) & each (found_code all l) chosen & put piece.GroupEnd
 
-unfoldable pub group : Urgency → ℕ → List CodeCount → Document
-group urgency all found = headed urgency all (urgent urgency found)
+unfoldable pub group : Urgency → ℕ → LinesSeen → List CodeCount → Document
+group urgency all l found = headed urgency all l (urgent urgency found)
 
 -- ---- codes that were not found, or not looked for
 
@@ -95,9 +97,23 @@ left_out_part cs =
 abbrev pub is_clean : PageTotals → List CodeCount → Bool
 is_clean t found = t.faults == 0 && length found == 0
 
--- what has to be mended, of a review with these numbers in which these codes were found
-unfoldable pub mend : QuestionSeen → PageTotals → List CodeCount → Document
-mend q t found =
-    put piece.Mend & group Today t.findings found & group Soon t.findings found & group TidyUp t.findings found
-    & group Policy t.findings found & put_if (is_clean t found) piece.NothingToMend & absent_part (absent q found)
+-- what has to be mended, of a review with these numbers in which these codes were found, in these lines
+unfoldable pub mend : QuestionSeen → PageTotals → List CodeCount → LinesSeen → Document
+mend q t found l =
+    put piece.Mend & group Today t.findings l found & group Soon t.findings l found & group TidyUp t.findings l found
+    & group Policy t.findings l found & put_if (is_clean t found) piece.NothingToMend & absent_part (absent q found)
     & left_out_part (left_out q) & put piece.MendEnd
+
+-- ---- the texts of files in it
+
+-- the codes that were found, by how soon
+abbrev pub by_urgency : List CodeCount → List CodeCount
+by_urgency found = urgent Today found ++ urgent Soon found ++ urgent TidyUp found ++ urgent Policy found
+
+-- the names of the files of the lines that are listed for a code
+abbrev pub code_names : LinesSeen → CodeCount → List (List ℕ)
+code_names l f = names_of l.names (listed_places l f.code)
+
+-- the same of all codes, in the order in which they stand
+abbrev pub mend_names : LinesSeen → List CodeCount → List (List ℕ)
+mend_names l found = flat_map (code_names l) (by_urgency found)

@@ -3,10 +3,11 @@ use Rattle.std.specs.Prelude.{ℕ, List}
 use Rattle.ssh_page.specs.declared.header.PageTotals.{PageTotals}
 use Rattle.ssh_page.specs.declared.mend.CodeCount.{CodeCount}
 use Rattle.ssh_page.specs.declared.piece.Piece.TheVariants as piece
-use Rattle.ssh_page.specs.Documents.{Document, put, say, ◌&◌}
+use Rattle.ssh_page.specs.Documents.{Document, marks, put, say, ◌&◌}
 use Rattle.ssh_page.specs.Files.{register}
 use Rattle.ssh_page.specs.Headers.{asked, tiles, verdict}
 use Rattle.ssh_page.specs.Mending.{mend}
+use Rattle.ssh_page.specs.Places.{LinesSeen}
 use Rattle.ssh_page.specs.Questions.{QuestionSeen}
 
 -- up to the header, with the title in two places
@@ -29,9 +30,13 @@ lines_end = put piece.LinesEnd
 unfoldable pub page_end : Document
 page_end = put piece.Sign & put piece.PageEnd
 
--- the page with this title, what was asked, the numbers, the codes that were found, the sections of the files, and the register
--- with a row for each file and the total
-abbrev pub whole_page : List ℕ → QuestionSeen → PageTotals → List CodeCount → Document → Document → List ℕ → Document
-whole_page title q t found sections rows total =
-    page_start title & header q t & mend q t found & lines_start & sections & lines_end & register rows total
-    & page_end
+-- what the page has of all lines: the names of the files, and their sections
+abbrev pub page_lines : List (List ℕ) → Document → LinesSeen
+page_lines names sections = record { names = names; sections = marks sections }
+
+-- the page with this title, what was asked, the numbers, the codes that were found, the names and the sections of the files, and
+-- the register with a row for each file and the total
+abbrev pub whole_page : List ℕ → QuestionSeen → PageTotals → List CodeCount → List (List ℕ) → Document → Document → List ℕ → Document
+whole_page title q t found names sections rows total =
+    page_start title & header q t & mend q t found (page_lines names sections) & lines_start & sections & lines_end
+    & register rows total & page_end

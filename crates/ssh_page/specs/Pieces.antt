@@ -219,6 +219,9 @@ tags piece.FoundRemedy =
     closes (codes "span") ∷ closes (codes "dt") ∷ reads (codes "\n") ∷ opens (codes "dd") [] ∷ opens (codes "p") []
     ∷ reads (codes "What to do: ") ∷ []
 tags piece.FoundEnd = reads (codes ".") ∷ closes (codes "p") ∷ closes (codes "dd") ∷ reads (codes "\n") ∷ []
+tags piece.Places = reads (codes ".") ∷ closes (codes "p") ∷ opens (codes "p") (codes " class=\"places\"") ∷ []
+tags piece.PlaceFile = begins (codes "a") (codes " href=\"#f") ∷ []
+tags piece.PlacesEnd = closes (codes "p") ∷ closes (codes "dd") ∷ reads (codes "\n") ∷ []
 tags piece.NothingToMend = opens (codes "p") [] ∷ reads (codes "Nothing.") ∷ closes (codes "p") ∷ reads (codes "\n") ∷ []
 tags piece.MendEnd = closes (codes "section") ∷ reads (codes "\n") ∷ []
 tags piece.Absent =

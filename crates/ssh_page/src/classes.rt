@@ -24,7 +24,7 @@ fn class_piece(urgency: Urgency) -> Piece
 
 /// The number of a code: 4 for `F4`.
 #[tactic(auto, unfolding(crate::specs::Classes::code_number))]
-fn code_number(code: Code) -> u64
+pub(crate) fn code_number(code: Code) -> u64
     ensures { result ≡ code_number code }
 {
     code as u64 + 1

@@ -18,13 +18,15 @@ ghost use Rattle.ssh_page.specs.declared.header.PageTotals.{PageTotals};
 ghost use Rattle.ssh_page.specs.declared.mend.CodeCount.{CodeCount};
 ghost use Rattle.ssh_page.specs.declared.piece.Piece.{Piece};
 ghost use Rattle.ssh_page.specs.declared.record.RowPlace.{RowPlace};
-ghost use Rattle.ssh_page.specs.Documents.{Document, IsOfBytes, after, html, marks, pieces_of, texts_of};
+ghost use Rattle.ssh_page.specs.Documents.{◌&◌, Document, IsOfBytes, after, html, marks, pieces_of, texts_of};
 ghost use Rattle.ssh_page.specs.Expanding.{delimiters, page, text_html, without_text};
 ghost use Rattle.ssh_page.specs.Files.{ClassesSeen, FileSeen, empty_section, fault_row, fault_section, file_row, register, section};
+ghost use Rattle.ssh_page.specs.FoundRows.{AreNumbers, HasPlaces, found_place};
 ghost use Rattle.ssh_page.specs.HostRecords.{bare_row, host_entry_row, revoked_row};
-ghost use Rattle.ssh_page.specs.Mending.{mend};
+ghost use Rattle.ssh_page.specs.Mending.{mend, mend_names};
 ghost use Rattle.ssh_page.specs.Pages.{header, whole_page};
 ghost use Rattle.ssh_page.specs.Pieces.{tags};
+ghost use Rattle.ssh_page.specs.Places.{LinesSeen, renamed};
 ghost use Rattle.ssh_page.specs.Questions.{QuestionSeen, is_of};
 ghost use Rattle.ssh_page.specs.Reading.{read_text};
 ghost use Rattle.ssh_page.specs.Records.{entry_row, unreadable_row};
@@ -103,14 +105,15 @@ fn sections_close_rule()
 /// The whole page closes what it opens, if its sections and rows do.
 fn page_closes_rule()
     ensures { (title : List ℕ) (q : QuestionSeen) (t : PageTotals) (found : List CodeCount)
-        (sections rows : Document) (total : List ℕ)
+        (names : List (List ℕ)) (sections rows : Document) (total : List ℕ)
         → ((inner : List (List ℕ)) → after (within inner) sections ≡ within inner)
         → ((inner : List (List ℕ)) → after (within inner) rows ≡ within inner)
-        → after (within []) (whole_page title q t found sections rows total) ≡ within [] }
+        → after (within []) (whole_page title q t found names sections rows total) ≡ within [] }
 {}
 
 /// Whoever writes the texts of a file cannot choose a tag: with one letter in place of each text, a
-/// row has the same pieces in the same order. Only whether a comment has bytes is seen.
+/// row has the same pieces in the same order. Only whether a comment has bytes is seen. With other
+/// names of files, what has to be mended has the same pieces.
 fn shape_rule()
     ensures entry { (place : RowPlace) (f : Facts) (found : List Finding)
         → pieces_of (entry_row place f found) ≡ pieces_of (entry_row place (facts_stand_in f) found) }
@@ -120,11 +123,14 @@ fn shape_rule()
     ensures revoked { (place : RowPlace) (fingerprint names : List ℕ) (found : List HostFinding)
         → pieces_of (revoked_row place fingerprint names found)
         ≡ pieces_of (revoked_row place fingerprint [] found) }
+    ensures mend { (q : QuestionSeen) (t : PageTotals) (found : List CodeCount) (l : LinesSeen)
+        (names : List (List ℕ))
+        → pieces_of (mend q t found l) ≡ pieces_of (mend q t found (renamed names l)) }
 {}
 
 /// Each text of a line stands in its row once, between `<code>` and `</code>`, in the order of the
-/// text format, and nothing else stands so. No text of a file stands in the header, or in what has to
-/// be mended.
+/// text format, and nothing else stands so. No text of a file stands in the header. In what has to be
+/// mended the names of files stand so, one for each line that is listed, and nothing else does.
 fn texts_rule()
     ensures entry { (place : RowPlace) (f : Facts) (found : List Finding)
         → texts_of (entry_row place f found) ≡ entry_texts f }
@@ -137,6 +143,40 @@ fn texts_rule()
     ensures bare { (place : RowPlace) (is : List ℕ) (held : Option HeldKey) (found : List HostFinding)
         → texts_of (bare_row place is held found) ≡ [] }
     ensures header { (q : QuestionSeen) (t : PageTotals) → texts_of (header q t) ≡ [] }
-    ensures mend { (q : QuestionSeen) (t : PageTotals) (found : List CodeCount)
-        → texts_of (mend q t found) ≡ [] }
+    ensures mend { (q : QuestionSeen) (t : PageTotals) (found : List CodeCount) (l : LinesSeen)
+        → texts_of (mend q t found l) ≡ mend_names l found }
+{}
+
+/// Each row with a finding of a code is one place of the code, with the numbers of its file and of its
+/// line, and nothing else in a section is one. So the places that a page lists of a code are these
+/// rows, in their order.
+fn places_rule()
+    ensures entry { (c : Code) (place : RowPlace) (f : Facts) (found : List Finding)
+        → AreNumbers place → IsOfBytes (entry_row place f found)
+        → HasPlaces c (entry_row place f found) (found_place auth_row c place found) }
+    ensures unreadable { (c : Code) (place : RowPlace) (held : Option HeldKey) (found : List Finding)
+        → AreNumbers place → IsOfBytes (unreadable_row place held found)
+        → HasPlaces c (unreadable_row place held found) (found_place auth_row c place found) }
+    ensures host_entry { (c : Code) (place : RowPlace) (f : HostFacts) (found : List HostFinding)
+        → AreNumbers place → IsOfBytes (host_entry_row place f found)
+        → HasPlaces c (host_entry_row place f found) (found_place host_row c place found) }
+    ensures revoked { (c : Code) (place : RowPlace) (fingerprint names : List ℕ)
+        (found : List HostFinding)
+        → AreNumbers place → IsOfBytes (revoked_row place fingerprint names found)
+        → HasPlaces c (revoked_row place fingerprint names found) (found_place host_row c place found) }
+    ensures bare { (c : Code) (place : RowPlace) (is : List ℕ) (held : Option HeldKey)
+        (found : List HostFinding)
+        → AreNumbers place → IsOfBytes (bare_row place is held found)
+        → HasPlaces c (bare_row place is held found) (found_place host_row c place found) }
+    ensures whole { (c : Code) (file : ℕ) (kind : FileKind) (f : FileSeen) (classes : ClassesSeen)
+        (rows : Document) (places : List RowPlace)
+        → IsOfBytes (section file kind f classes rows) → HasPlaces c rows places
+        → HasPlaces c (section file kind f classes rows) places }
+    ensures empty { (c : Code) (file : ℕ) (f : FileSeen)
+        → IsOfBytes (empty_section file f) → HasPlaces c (empty_section file f) [] }
+    ensures fault { (c : Code) (file : ℕ) (name code means : List ℕ)
+        → IsOfBytes (fault_section file name code means)
+        → HasPlaces c (fault_section file name code means) [] }
+    ensures both { (c : Code) (a b : Document) (first second : List RowPlace)
+        → HasPlaces c a first → HasPlaces c b second → HasPlaces c (a & b) (first ++ second) }
 {}

@@ -1,17 +1,19 @@
-//! What has to be mended: the codes that were found, by how soon; those that were looked for and not
-//! found; and those that were not looked for.
+//! What has to be mended: the codes that were found, by how soon, with the lines that have them; those
+//! that were looked for and not found; and those that were not looked for.
 
 ghost use Rattle.std.specs.Prelude.{◌≡◌, ◌++◌, OnOk, IfOk, option_map};
 ghost use Rattle.std.specs.List.{flat_map};
 ghost use Rattle.ssh_findings.specs.Codes.{code_text};
 ghost use Rattle.ssh_page.specs.Documents.{each, marks};
 ghost use Rattle.ssh_page.specs.Mending.{absent, absent_code, absent_part, found_code, found_head, group, group_piece, is_clean, is_found, is_urgent, left_out_part, means, mend, remedy, urgent};
+ghost use Rattle.ssh_page.specs.Places.{lines_seen};
 ghost use Rattle.ssh_page.specs.Questions.{question_seen};
 ghost use Rattle.ssh_print.specs.Table.{code_row, row_of};
 
 use crate::header::{PageTotals, push_code_words};
 use crate::marks::push_piece;
 use crate::piece::Piece;
+use crate::places::{PageLines, listed_places, push_places};
 use crate::question::{PageQuestion, left_out, looked_for};
 use crate::record::push_if;
 use ssh_findings::{Code, Urgency, how_soon};
@@ -72,25 +74,40 @@ fn push_found_head(out: &mut Vec<u8>, all: u64, found: CodeCount) -> Result<(), 
     Ok(())
 }
 
-/// Appends a code that was found, of so many findings in all: what it means, and what to do.
+/// Appends a code that was found, of so many findings in all: what it means, what to do, and the
+/// lines that have it.
 #[tactic(auto, unfolding(crate::specs::Mending::found_code))]
-fn push_found_code(out: &mut Vec<u8>, all: u64, found: CodeCount) -> Result<(), AllocError>
-    ensures { OnOk result (out.new.items ≡ out.old.items ++ marks (found_code all found)) }
+fn push_found_code(
+    alloc: Global,
+    out: &mut Vec<u8>,
+    all: u64,
+    lines: &PageLines<'_>,
+    found: CodeCount,
+) -> Result<(), AllocError>
+    ensures { OnOk result (out.new.items
+        ≡ out.old.items ++ marks (found_code all (lines_seen lines.entry.now) found)) }
 {
+    let places = listed_places(alloc, lines, found.code)?;
     push_found_head(out, all, found)?;
     push_shown(out, means(found.code))?;
     push_piece(out, Piece::FoundRemedy)?;
     push_shown(out, remedy(found.code))?;
-    push_piece(out, Piece::FoundEnd)?;
+    push_places(out, lines.names, &places)?;
     Ok(())
 }
 
-fn push_found_codes(out: &mut Vec<u8>, all: u64, found: &[CodeCount]) -> Result<(), AllocError>
+fn push_found_codes(
+    alloc: Global,
+    out: &mut Vec<u8>,
+    all: u64,
+    lines: &PageLines<'_>,
+    found: &[CodeCount],
+) -> Result<(), AllocError>
     ensures { OnOk result (out.new.items
-        ≡ out.old.items ++ marks (each (found_code all) found.now)) }
+        ≡ out.old.items ++ marks (each (found_code all (lines_seen lines.entry.now)) found.now)) }
 {
     for code in found {
-        push_found_code(out, all, *code)?;
+        push_found_code(alloc, out, all, lines, *code)?;
     }
     Ok(())
 }
@@ -135,16 +152,18 @@ fn push_group(
     out: &mut Vec<u8>,
     urgency: Urgency,
     all: u64,
+    lines: &PageLines<'_>,
     found: &[CodeCount],
 ) -> Result<(), AllocError>
-    ensures { OnOk result (out.new.items ≡ out.old.items ++ marks (group urgency all found.now)) }
+    ensures { OnOk result (out.new.items
+        ≡ out.old.items ++ marks (group urgency all (lines_seen lines.entry.now) found.now)) }
 {
     let chosen = urgent(alloc, urgency, found)?;
     if chosen.is_empty() {
         return Ok(());
     }
     push_piece(out, group_piece(urgency))?;
-    push_found_codes(out, all, &chosen)?;
+    push_found_codes(alloc, out, all, lines, &chosen)?;
     push_piece(out, Piece::GroupEnd)?;
     Ok(())
 }
@@ -231,7 +250,8 @@ fn is_clean(totals: &PageTotals, found: &[CodeCount]) -> bool
     totals.faults == 0 && found.is_empty()
 }
 
-/// Appends what has to be mended. `found` has each code that was found once, in ascending order.
+/// Appends what has to be mended. `found` has each code that was found once, in ascending order, and
+/// `lines` those of which the places are read.
 #[tactic(auto, unfolding(crate::specs::Mending::mend))]
 pub fn push_mend(
     alloc: Global,
@@ -239,17 +259,18 @@ pub fn push_mend(
     question: &PageQuestion<'_>,
     totals: &PageTotals,
     found: &[CodeCount],
+    lines: &PageLines<'_>,
 ) -> Result<(), AllocError>
-    ensures { OnOk result (out.new.items ≡ out.old.items
-        ++ marks (mend (question_seen question.entry.now) totals.now found.now)) }
+    ensures { OnOk result (out.new.items ≡ out.old.items ++ marks (mend (question_seen question.entry.now)
+        totals.now found.now (lines_seen lines.entry.now))) }
 {
     let not_found = absent(alloc, question, found)?;
     let not_asked = left_out(alloc, question)?;
     push_piece(out, Piece::Mend)?;
-    push_group(alloc, out, Urgency::Today, totals.findings, found)?;
-    push_group(alloc, out, Urgency::Soon, totals.findings, found)?;
-    push_group(alloc, out, Urgency::TidyUp, totals.findings, found)?;
-    push_group(alloc, out, Urgency::Policy, totals.findings, found)?;
+    push_group(alloc, out, Urgency::Today, totals.findings, lines, found)?;
+    push_group(alloc, out, Urgency::Soon, totals.findings, lines, found)?;
+    push_group(alloc, out, Urgency::TidyUp, totals.findings, lines, found)?;
+    push_group(alloc, out, Urgency::Policy, totals.findings, lines, found)?;
     push_if(out, is_clean(totals, found), Piece::NothingToMend)?;
     push_absent(out, &not_found)?;
     push_left_out(out, &not_asked)?;

@@ -2,7 +2,7 @@
 //!
 //! A page is `push_page_start`, the header (`push_verdict`, `push_tiles`, `push_asked`), `push_mend`,
 //! `push_lines_start`, the section of each file, `push_lines_end`, the register, and
-//! `push_page_end`.
+//! `push_page_end`. The sections are made first: `push_mend` reads the lines that it lists off them.
 
 ghost use Rattle.std.specs.Prelude.{◌≡◌, ◌++◌, OnOk};
 ghost use Rattle.ssh_page.specs.Documents.{marks, put};

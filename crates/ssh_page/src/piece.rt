@@ -110,6 +110,11 @@ pub(crate) enum Piece {
     FoundMeans,
     FoundRemedy,
     FoundEnd,
+    // The places of a code: links to the rows that have it.
+    Places,
+    PlaceFile,
+    PlacesEnd,
+    // Where there is nothing to mend; and the end of the part.
     NothingToMend,
     MendEnd,
     // The codes that were not found, and those that were not looked for.
@@ -124,7 +129,7 @@ pub(crate) enum Piece {
 }
 
 /// The HTML of each piece.
-static MARKUP: [&str; 97] = [
+static MARKUP: [&str; 100] = [
     "<code>",
     "</code>",
     "<tr class=\"ln",
@@ -214,6 +219,9 @@ static MARKUP: [&str; 97] = [
     "\" height=\"1\"></rect></svg> <span class=\"mean\">",
     "</span></dt>\n<dd><p>What to do: ",
     ".</p></dd>\n",
+    ".</p><p class=\"places\">",
+    "<a href=\"#f",
+    "</p></dd>\n",
     "<p>Nothing.</p>\n",
     "</section>\n",
     "<p class=\"says\">Looked for in every line, and not found:</p>\n<ul>\n",

@@ -1,5 +1,5 @@
 -- The page of a review: what each file has on it, one after the other, and the whole.
-use Rattle.ssh_program.proofs.Imports.{◌≡◌, ◌∙◌, ◌≤◌, ◌++◌, ℕ, Bool, List, [], ◌∷◌, length, Option, Some, None, Result, Ok, Err, refl, sym, ap, subst, inl, inr, IfOk, OnOk, lt-ltb, append_assoc, flat_map-append, Account, Asking, TellsFile, IfTells, SourceState, bytes_at, after_whole, FailsLoad, IsLeft, IsTooLong, KeepsOthers, within_limit, ReadError, left-none, left-end, no-end, over_limit, TooLong, ReviewKind, file_limit, Leads, leads_end, leads_next, WritesResponse}
+use Rattle.ssh_program.proofs.Imports.{◌≡◌, map, ◌∙◌, ◌≤◌, ◌++◌, ℕ, Bool, List, [], ◌∷◌, length, Option, Some, None, Result, Ok, Err, refl, sym, ap, subst, inl, inr, IfOk, OnOk, lt-ltb, append_assoc, flat_map-append, Account, Asking, TellsFile, IfTells, SourceState, bytes_at, after_whole, FailsLoad, IsLeft, IsTooLong, KeepsOthers, within_limit, ReadError, left-none, left-end, no-end, over_limit, TooLong, ReviewKind, file_limit, Leads, leads_end, leads_next, WritesResponse}
 use Rattle.std.specs.Prelude.{if◌then◌else◌}
 use Rattle.ssh_files.specs.declared.read.ReadError.TheVariants as read
 use Rattle.ssh_files.proofs.TurnLemmas.{leads_begin}
@@ -8,7 +8,7 @@ use Rattle.ssh_page.specs.declared.file.FileKind.{FileKind}
 use Rattle.ssh_page.specs.Documents.{Document, marks}
 use Rattle.ssh_page.specs.Expanding.{mark_html, page}
 use Rattle.ssh_page.specs.Files.{register_end, register_head}
-use Rattle.ssh_page.specs.Pages.{lines_end, page_end, whole_page}
+use Rattle.ssh_page.specs.Pages.{lines_end, page_end, page_lines, whole_page}
 use Rattle.ssh_page.specs.Questions.{QuestionSeen}
 use Rattle.ssh_page.specs.declared.header.PageTotals.{PageTotals}
 use Rattle.ssh_page.specs.declared.mend.CodeCount.{CodeCount}
@@ -172,10 +172,10 @@ reports-last kind asking names left (Some s) now k keys none h = λ counts.
 -- ---- the whole
 
 -- the marked text of the whole page, in its two parts
-parts-are : (title : List ℕ) (q : QuestionSeen) (t : PageTotals) (found : List CodeCount) (words : List ℕ) (sections register : Document)
-    → marks (whole_page title q t found sections register words) ≡ page_front title q t found ++ (marks sections ++ page_rest (marks register) words)
-parts-are title q t found words sections register =
-    let a = page_front title q t found in
+parts-are : (title : List ℕ) (q : QuestionSeen) (t : PageTotals) (found : List CodeCount) (words : List ℕ) (names : List (List ℕ)) (sections register : Document)
+    → marks (whole_page title q t found names sections register words) ≡ page_front title q t found (page_lines names sections) ++ (marks sections ++ page_rest (marks register) words)
+parts-are title q t found words names sections register =
+    let a = page_front title q t found (page_lines names sections) in
     let b = marks sections in
     let c = marks lines_end in
     let g = marks register_head in
@@ -188,25 +188,28 @@ parts-are title q t found words sections register =
     ∙ (append_assoc (a ++ b) c ((g ++ r ++ d) ++ e)
     ∙ (append_assoc a b (c ++ ((g ++ r ++ d) ++ e)) ∙ ap (λ (x : List ℕ). a ++ (b ++ x)) (sym rest)))
 
-pub page-is : (failing : List Code) (title : List ℕ) (kind : ReviewKind) (rule : List ℕ) (asking : Asking) (p : PageSofar)
-    → parts_response failing title kind rule asking (page_kept p) ≡ page_response failing title kind rule asking p
-page-is failing title kind rule asking p =
+pub page-is : (failing : List Code) (title : List ℕ) (kind : ReviewKind) (rule : List ℕ) (asking : Asking) (names : List (List ℕ)) (p : PageSofar)
+    → parts_response failing title kind rule asking names (page_kept p) ≡ page_response failing title kind rule asking names p
+page-is failing title kind rule asking names p =
     let words = total_words rule asking p.total in
     let body = marks p.sections ++ page_rest (marks p.register) words in
     let q = page_question (file_kind kind) rule asking in
     let found = codes_found p.total.counts.by_code in
     let t = page_totals p.total found in
-    let text : page (page_front title q t found) ++ page body ≡ page (marks (whole_page title q t found p.sections p.register words)) =
-    sym (flat_map-append mark_html (page_front title q t found) body) ∙ ap page (sym (parts-are title q t found words p.sections p.register)) in
-    ap (λ (x : List ℕ). record { status = (parts_response failing title kind rule asking (page_kept p)).status; text = x }) text
+    let front = page_front title q t found (page_lines names p.sections) in
+    let text : page front ++ page body ≡ page (marks (whole_page title q t found names p.sections p.register words)) =
+    sym (flat_map-append mark_html front body) ∙ ap page (sym (parts-are title q t found words names p.sections p.register)) in
+    ap (λ (x : List ℕ). record { status = (parts_response failing title kind rule asking names (page_kept p)).status; text = x }) text
 
-pub page-made : (failing : List Code) (title rule : List ℕ) (kind : ReviewKind) (asking : Asking) (names : List NameSeen) (o t : Option SourceState) (k : PageMarks) (m : MadePage)
-    → IfTells o (λ s. PageReported kind asking names s t k) → made_response m ≡ parts_response failing title kind rule asking k
+pub page-made : (failing : List Code) (title rule : List ℕ) (kind : ReviewKind) (asking : Asking) (names : List NameSeen) (shown : List (List ℕ)) (o t : Option SourceState) (k : PageMarks) (m : MadePage)
+    → shown ≡ map shown_name names → IfTells o (λ s. PageReported kind asking names s t k) → made_response m ≡ parts_response failing title kind rule asking shown k
     → IfTells o (λ s. ReviewsPage title kind failing rule asking names s t (made_response m))
-page-made failing title rule kind asking names None t k m line_reports is = tt
-page-made failing title rule kind asking names (Some s) t k m line_reports is = λ counts.
+page-made failing title rule kind asking names shown None t k m are line_reports is = tt
+page-made failing title rule kind asking names shown (Some s) t k m are line_reports is = λ counts.
     let (sofar, same, files) = line_reports counts in
-    (sofar, files, is ∙ (ap (parts_response failing title kind rule asking) same ∙ page-is failing title kind rule asking sofar))
+    let named : parts_response failing title kind rule asking shown k ≡ parts_response failing title kind rule asking (map shown_name names) k =
+    ap (λ (n : List (List ℕ)). parts_response failing title kind rule asking n k) are in
+    (sofar, files, is ∙ (named ∙ (ap (parts_response failing title kind rule asking (map shown_name names)) same ∙ page-is failing title kind rule asking (map shown_name names) sofar)))
 
 -- what was made is written
 pub page-written : (P : SourceState → Shown → Type 0) (o : Option SourceState) (r : Shown) (old new : Option Account) (status : ℕ) → IfTells o (λ s. P s r) → WritesResponse old new r status

@@ -1,8 +1,9 @@
 -- A run of `review --form html` that ends without a fault printed a page with the sections of all files.
-use Rattle.ssh_program.proofs.Imports.{◌≡◌, ◌∙◌, ◌<◌, ◌≤◌, ◌+◌, ◌++◌, ℕ, Bool, true, false, List, [], ◌∷◌, length, Option, Some, None, Result, Ok, Err, ap, sym, refl, subst, inl, inr, arith, append-nil, append_assoc, flat_map-append, Row, TimeZone, IfTells, SourceState, bytes_at, most_failures, file_limit, TellsFile, TellsFiles, KeepsOthers, ReadsZone, Response, Account, WritesResponse, RespondsTo, source_of, ReviewCall, FormAsked, TooLong, if◌then◌else◌}
+use Rattle.ssh_program.proofs.Imports.{◌≡◌, map, ◌∙◌, ◌<◌, ◌≤◌, ◌+◌, ◌++◌, ℕ, Bool, true, false, List, [], ◌∷◌, length, Option, Some, None, Result, Ok, Err, ap, sym, refl, subst, inl, inr, arith, append-nil, append_assoc, flat_map-append, Row, TimeZone, IfTells, SourceState, bytes_at, most_failures, file_limit, TellsFile, TellsFiles, KeepsOthers, ReadsZone, Response, Account, WritesResponse, RespondsTo, source_of, ReviewCall, FormAsked, TooLong, if◌then◌else◌}
 use Rattle.std.specs.Prelude.{nat_lt}
 use Rattle.ssh_page.specs.Documents.{marks}
 use Rattle.ssh_page.specs.Expanding.{mark_html, page}
+use Rattle.ssh_page.specs.Pages.{page_lines}
 use Rattle.ssh_review.proofs.PageListingLemmas.{host-row-listed, row-listed}
 use Rattle.ssh_files.specs.declared.files.UnreadCause.{UnreadCause}
 use Rattle.ssh_files.specs.SourceState.{bytes_of, cause_at, given_at}
@@ -130,10 +131,11 @@ page-of asked s t r room (reported, chain, is) few =
     let none = faultless asked.failing reported.total (omega (arith, status, few)) in
     let (rest, shown, each) = each-shown asked no_page asked.names s t reported room chain none in
     let last = page_rest (marks reported.register) (total_words asked.rule asked.asking reported.total) in
-    let front = page (front_of asked.title (file_kind asked.kind) asked.rule asked.asking reported.total) in
+    let names = map shown_name asked.names in
+    let front = page (front_of asked.title (file_kind asked.kind) asked.rule asked.asking (page_lines names reported.sections) reported.total) in
     let body : page (marks reported.sections ++ last) ≡ page rest ++ page last = flat_map-append mark_html (marks reported.sections) last ∙ ap (λ (x : List ℕ). page x ++ page last) shown.sections in
     let whole : r.text ≡ front ++ (page rest ++ page last) =
-    ap (λ (x : Response). x.text) is ∙ (sym (ap (λ (x : Response). x.text) (page-is asked.failing asked.title asked.kind asked.rule asked.asking reported)) ∙ ap (λ (x : List ℕ). front ++ x) body) in
+    ap (λ (x : Response). x.text) is ∙ (sym (ap (λ (x : Response). x.text) (page-is asked.failing asked.title asked.kind asked.rule asked.asking names reported)) ∙ ap (λ (x : List ℕ). front ++ x) body) in
     prints-sections asked 0 r.text front (page last) asked.names s rest each whole
 
 shown-in : (rows : List Row) (names : List (List ℕ)) (zone : Option TimeZone) (s : SourceState) (t : Option SourceState) (r : Response) → names_needed rows ≡ Ok names

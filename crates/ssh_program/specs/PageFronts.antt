@@ -11,6 +11,7 @@ use Rattle.ssh_findings.specs.declared.code_counts.CodeCounts.{CodeCounts}
 use Rattle.ssh_findings.specs.declared.urgency.Urgency.TheVariants.{Today}
 use Rattle.ssh_page.specs.Documents.{marks}
 use Rattle.ssh_page.specs.Mending.{mend}
+use Rattle.ssh_page.specs.Places.{LinesSeen}
 use Rattle.ssh_page.specs.Pages.{header, lines_start, page_start}
 use Rattle.ssh_page.specs.Questions.{QuestionSeen}
 use Rattle.ssh_page.specs.declared.file.FileKind.{FileKind}
@@ -68,10 +69,10 @@ page_totals total found = record {
 -- ---- the marked text
 
 -- before the first section: the title, the header, and what has to be mended
-abbrev pub page_front : List ℕ → QuestionSeen → PageTotals → List CodeCount → List ℕ
-page_front title q t found = marks (page_start title) ++ marks (header q t) ++ marks (mend q t found) ++ marks lines_start
+abbrev pub page_front : List ℕ → QuestionSeen → PageTotals → List CodeCount → LinesSeen → List ℕ
+page_front title q t found l = marks (page_start title) ++ marks (header q t) ++ marks (mend q t found l) ++ marks lines_start
 
--- by the total of all files
-abbrev pub front_of : List ℕ → FileKind → List ℕ → Asking → Total → List ℕ
-front_of title kind rule asking total =
-    page_front title (page_question kind rule asking) (page_totals total (codes_found total.counts.by_code)) (codes_found total.counts.by_code)
+-- by the lines and the total of all files
+abbrev pub front_of : List ℕ → FileKind → List ℕ → Asking → LinesSeen → Total → List ℕ
+front_of title kind rule asking l total =
+    page_front title (page_question kind rule asking) (page_totals total (codes_found total.counts.by_code)) (codes_found total.counts.by_code) l

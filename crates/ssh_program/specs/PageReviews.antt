@@ -1,5 +1,5 @@
 -- The page of a review: what each file has on it, one after the other, and the whole (this project's rule).
-use Rattle.std.specs.Prelude.{◌≡◌, ◌++◌, ℕ, nat_lt, false, List, [], length, Option, Some, None, Result, Ok, Err, if◌then◌else◌}
+use Rattle.std.specs.Prelude.{◌≡◌, ◌++◌, ℕ, nat_lt, false, List, [], length, map, Option, Some, None, Result, Ok, Err, if◌then◌else◌}
 use Rattle.ssh_text.specs.Text.{file_limit}
 use Rattle.ssh_findings.specs.Asking.{Asking}
 use Rattle.ssh_findings.specs.declared.code.Code.{Code}
@@ -145,27 +145,27 @@ PageReported kind asking names s t k = (sofar : PageSofar) × (k ≡ page_kept s
 abbrev pub page_rest : List ℕ → List ℕ → List ℕ
 page_rest register words = marks lines_end ++ marks register_head ++ register ++ marks (register_end words) ++ marks page_end
 
--- what is written of these parts
-abbrev pub parts_response : List Code → List ℕ → ReviewKind → List ℕ → Asking → PageMarks → Response
-parts_response failing title kind rule asking k = record {
+-- what is written of these parts, of files that the page has by these names
+abbrev pub parts_response : List Code → List ℕ → ReviewKind → List ℕ → Asking → List (List ℕ) → PageMarks → Response
+parts_response failing title kind rule asking names k = record {
   status = total_status failing k.total;
-  text = page (front_of title (file_kind kind) rule asking k.total) ++ page (k.sections ++ page_rest k.register (total_words rule asking k.total));
+  text = page (front_of title (file_kind kind) rule asking (record { names = names; sections = k.sections }) k.total) ++ page (k.sections ++ page_rest k.register (total_words rule asking k.total));
 }
 
 abbrev pub made_response : MadePage → Response
 made_response m = record { status = m.status; text = page m.front.items ++ page m.body.items }
 
--- The page with this title of these files, and the status of the other formats. The register ends with the total in the words of
--- the text format.
-abbrev pub page_response : List Code → List ℕ → ReviewKind → List ℕ → Asking → PageSofar → Response
-page_response failing title kind rule asking p = record {
+-- The page with this title of these files, which it has by these names, and the status of the other formats. The register ends with
+-- the total in the words of the text format.
+abbrev pub page_response : List Code → List ℕ → ReviewKind → List ℕ → Asking → List (List ℕ) → PageSofar → Response
+page_response failing title kind rule asking names p = record {
   status = total_status failing p.total;
   text = page (marks (whole_page title (page_question (file_kind kind) rule asking) (page_totals p.total (codes_found p.total.counts.by_code))
-      (codes_found p.total.counts.by_code) p.sections p.register (total_words rule asking p.total)));
+      (codes_found p.total.counts.by_code) names p.sections p.register (total_words rule asking p.total)));
 }
 
 -- nothing is written before the last file was read
 abbrev pub ReviewsPage : List ℕ → ReviewKind → List Code → List ℕ → Asking → List NameSeen → SourceState → Option SourceState → Response → Type 0
 ReviewsPage title kind failing rule asking names s t r =
     (reported : PageSofar) × TellsFiles (with_given kind asking) telling_given no_page names s t reported
-    × (r ≡ page_response failing title kind rule asking reported)
+    × (r ≡ page_response failing title kind rule asking (map shown_name names) reported)

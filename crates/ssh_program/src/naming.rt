@@ -1,15 +1,17 @@
 //! What the names of the files of a review are: the value of `--labels`.
 
-ghost use Rattle.std.specs.Prelude.{◌≡◌, Option, map, option_map};
+ghost use Rattle.std.specs.Prelude.{◌≡◌, IfOk, Option, map, option_map};
 ghost use Rattle.std.specs.List.{list_all};
-ghost use Rattle.ssh_review.specs.FileNames.{name_seen};
+ghost use Rattle.ssh_review.specs.FileNames.{name_seen, shown_name};
 ghost use Rattle.ssh_program.specs.ArgsView.{Spells, rows_in};
 ghost use Rattle.ssh_program.specs.Namings.{is_named, labelled, names_asked, names_seen, named, naming_asked, naming_of};
 
 use crate::args::{ArgName, Args};
 use crate::command::CommandError;
 use crate::host_port::cut;
-use ssh_review::{FileName, Labels};
+use ssh_review::{FileName, Labels, shown_name};
+use ssh_text::Bytes;
+use std::alloc::{AllocError, Global};
 
 /// What each name of a file says.
 #[derive(Clone, Copy, Debug, PartialEq, Eq)]
@@ -107,4 +109,16 @@ pub fn names_asked<'a>(
     } else {
         Err(CommandError::Value(ArgName::Labels))
     }
+}
+
+/// The names as the page has them, in their order.
+pub fn shown_names(alloc: Global, names: ListedNames<'_>) -> Result<Vec<Bytes>, AllocError>
+    ensures { IfOk result (λ shown. shown.items ≡ map shown_name (names_seen names.entry)) }
+{
+    let mut shown = Vec::new(alloc);
+    for word in names.words {
+        let name = shown_name(alloc, names.naming.name_of(word))?;
+        shown.push(Bytes::new(name))?;
+    }
+    Ok(shown)
 }

@@ -1,17 +1,18 @@
 //! What stands before the sections of a page: its header, and what has to be mended, by the total of
-//! all files.
+//! all files and by their sections.
 
 ghost use Rattle.std.specs.Prelude.{◌≡◌, ◌++◌, IfOk, OnOk};
 ghost use Rattle.ssh_findings.specs.Asking.{asking_of};
 ghost use Rattle.ssh_page.specs.Documents.{marks};
 ghost use Rattle.ssh_page.specs.Pages.{header};
+ghost use Rattle.ssh_page.specs.Places.{lines_seen};
 ghost use Rattle.ssh_page.specs.Questions.{question_seen};
 ghost use Rattle.ssh_program.specs.PageFronts.{count_of, found_among, front_of, is_counted, page_front, page_question, page_totals, today_of, with_today};
 
 use ssh_findings::{Code, CodeCounts, ReviewOptions, Urgency, how_soon};
 use ssh_page::{
-    CodeCount, FileKind, PageQuestion, PageTotals, push_asked, push_lines_start, push_mend,
-    push_page_start, push_tiles, push_verdict,
+    CodeCount, FileKind, PageLines, PageQuestion, PageTotals, push_asked, push_lines_start,
+    push_mend, push_page_start, push_tiles, push_verdict,
 };
 use ssh_review::Total;
 use std::alloc::{AllocError, Global};
@@ -122,19 +123,20 @@ fn page_front(
     question: &PageQuestion<'_>,
     totals: &PageTotals,
     found: &[CodeCount],
+    lines: &PageLines<'_>,
 ) -> Result<Vec<u8>, AllocError>
-    ensures { IfOk result (λ front. front.items
-        ≡ page_front title.now (question_seen question.entry.now) totals.now found.now) }
+    ensures { IfOk result (λ front. front.items ≡ page_front title.now (question_seen question.entry.now)
+        totals.now found.now (lines_seen lines.entry.now)) }
 {
     let mut front = Vec::new(alloc);
     push_page_start(&mut front, title.as_bytes())?;
     push_header(alloc, &mut front, question, totals)?;
-    push_mend(alloc, &mut front, question, totals, found)?;
+    push_mend(alloc, &mut front, question, totals, found, lines)?;
     push_lines_start(&mut front)?;
     Ok(front)
 }
 
-/// The marked text before the first section, where this is the total of all files.
+/// The marked text before the first section, where these are the lines and the total of all files.
 #[tactic(auto, unfolding(crate::specs::PageFronts::codes_found))]
 pub fn front_of(
     alloc: Global,
@@ -142,14 +144,15 @@ pub fn front_of(
     kind: FileKind,
     rule: &[u8],
     asked: &ReviewOptions<'_>,
+    lines: &PageLines<'_>,
     total: &Total,
 ) -> Result<Vec<u8>, AllocError>
-    ensures { IfOk result (λ front. front.items
-        ≡ front_of title.now kind rule.now (asking_of asked.entry.now) total.now) }
+    ensures { IfOk result (λ front. front.items ≡ front_of title.now kind rule.now
+        (asking_of asked.entry.now) (lines_seen lines.entry.now) total.now) }
 {
     let found = found_among(alloc, total.counts.by_code, &Code::ALL)?;
     let totals = page_totals(total, &found);
     let question = page_question(kind, rule, asked);
-    let front = page_front(alloc, title, &question, &totals, &found)?;
+    let front = page_front(alloc, title, &question, &totals, &found, lines)?;
     Ok(front)
 }

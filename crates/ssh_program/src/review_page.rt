@@ -18,7 +18,7 @@ ghost use Rattle.ssh_program.specs.PageReviews.{FileGiven, IsReported, PageRepor
 ghost use Rattle.ssh_program.specs.FileReviews.{file_kind};
 ghost use Rattle.ssh_program.specs.Printing.{Breaks, TakesAll, WritesAnswer, WritesResponse};
 
-use crate::naming::ListedNames;
+use crate::naming::{ListedNames, shown_names};
 use crate::page_front::front_of;
 use crate::printing::{put_bytes, put_no_memory};
 use crate::review::{FileNoted, NOTHING, ReviewKind, file_kind, total_status, with_counted};
@@ -28,14 +28,15 @@ use arrayvec::ArrayVec;
 use ssh_files::{Files, ReadError, UnreadCause, read_whole};
 use ssh_findings::{Code, ReviewOptions};
 use ssh_page::{
-    FileKind, HtmlRoom, expand_front, first_html, push_lines_end, push_page_end, push_register_end,
-    push_register_head,
+    FileKind, HtmlRoom, PageLines, expand_front, first_html, push_lines_end, push_page_end,
+    push_register_end, push_register_head,
 };
 use ssh_print::FAULT;
 use ssh_review::{
     Counts, DistinctKeys, FileFault, FileName, Total, push_page_fault, push_page_file, shown_name,
     total_words,
 };
+use ssh_text::Bytes;
 use std::alloc::{AllocError, Global};
 use std::io;
 
@@ -285,7 +286,7 @@ fn push_rest(out: &mut Vec<u8>, register: &[u8], words: &[u8]) -> Result<(), All
     Ok(())
 }
 
-/// The page of these parts.
+/// The page of these parts, of files that it has by these names.
 fn made_of(
     alloc: Global,
     title: &str,
@@ -293,12 +294,25 @@ fn made_of(
     failing: &[Code],
     rule: &[u8],
     asked: &ReviewOptions<'_>,
+    names: &[Bytes],
     parts: PageParts,
 ) -> Result<MadePage, AllocError>
-    ensures { IfOk result (λ made. made_response made
-        ≡ parts_response failing.now title.now kind rule.now (asking_of asked.entry.now) (parts_seen parts)) }
+    ensures { IfOk result (λ made. made_response made ≡ parts_response failing.now title.now kind rule.now
+        (asking_of asked.entry.now) names.now (parts_seen parts)) }
 {
-    let front = front_of(alloc, title, file_kind(kind), rule, asked, &parts.total)?;
+    let lines = PageLines {
+        names,
+        sections: &parts.sections,
+    };
+    let front = front_of(
+        alloc,
+        title,
+        file_kind(kind),
+        rule,
+        asked,
+        &lines,
+        &parts.total,
+    )?;
     let words = total_words(alloc, rule, asked, &parts.total)?;
     let status = total_status(failing, &parts.total);
     let mut body = parts.sections;
@@ -326,7 +340,8 @@ fn make_page<F: Files>(
         (F.source_state files.new) (made_response made))) }
 {
     let parts = tell_files(alloc, kind, asked, names, files)?;
-    let made = made_of(alloc, title, kind, failing, rule, asked, parts)?;
+    let shown = shown_names(alloc, names)?;
+    let made = made_of(alloc, title, kind, failing, rule, asked, &shown, parts)?;
     Ok(made)
 }
 

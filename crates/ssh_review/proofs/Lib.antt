@@ -50,3 +50,4 @@ pub mod KeyReviewLemmas
 pub mod KeyListingLemmas
 pub mod PageRowLemmas
 pub mod PageListingLemmas
+pub mod PagePlaceLemmas

@@ -46,3 +46,4 @@ pub mod Rows
 pub mod HostRows
 pub mod PageFiles
 pub mod PageListing
+pub mod PagePlaces

@@ -142,13 +142,13 @@ pub fn push_page_file(
 {
     match kind {
         FileKind::AuthorizedKeys => {
-            let begun = auth_records(alloc, file)?;
+            let begun = auth_records(alloc, file);
             push_records(
                 alloc, kind, number, asked, name, file, begun, keys, sections, register,
             )
         }
         FileKind::KnownHosts => {
-            let begun = known_records(alloc, file)?;
+            let begun = known_records(alloc, file);
             push_records(
                 alloc, kind, number, asked, name, file, begun, keys, sections, register,
             )

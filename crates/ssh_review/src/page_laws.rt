@@ -1,23 +1,29 @@
 //! Laws about the rows of the page, proved of functions without a body.
 
-ghost use Rattle.std.specs.Prelude.{◌≡◌, ◌<◌, ℕ, List, Option};
+ghost use Rattle.std.specs.Prelude.{◌≡◌, ◌<◌, ◌≤◌, ◌^◌, ℕ, List, Option, length};
 ghost use Rattle.std.specs.List.{AllByRecursion};
 ghost use Rattle.ssh_findings.specs.Asking.{Asking};
 ghost use Rattle.ssh_findings.specs.Earlier.{Held};
 ghost use Rattle.ssh_findings.specs.HostLines.{HostLine};
+ghost use Rattle.ssh_findings.specs.declared.code.Code.{Code};
 ghost use Rattle.ssh_offers.specs.declared.claim.Signed.{Signed};
 ghost use Rattle.ssh_offers.specs.HostClaim.{HostClaim};
 ghost use Rattle.ssh_offers.specs.LoginClaim.{LoginClaim};
-ghost use Rattle.ssh_page.specs.Documents.{marks};
+ghost use Rattle.ssh_page.specs.Documents.{IsOfBytes, marks};
+ghost use Rattle.ssh_page.specs.FoundRows.{HasPlaces};
+ghost use Rattle.ssh_page.specs.declared.file.FileKind.{FileKind};
 ghost use Rattle.ssh_rights.specs.declared.rights.Rights.{Rights};
 ghost use Rattle.ssh_rules.specs.declared.reason.Reason.{Reason};
+ghost use Rattle.ssh_text.specs.Text.{file_limit};
 ghost use Rattle.ssh_trust.specs.HostDecision.{host_decision};
 ghost use Rattle.ssh_trust.specs.LoginDecision.{login_decision};
 ghost use Rattle.ssh_trust.specs.declared.decision.Decision.TheVariants.{Granted};
 ghost use Rattle.ssh_review.specs.HostLines.{host_records_of};
 ghost use Rattle.ssh_review.specs.HostRows.{host_rows_of};
 ghost use Rattle.ssh_review.specs.Lines.{records_of};
+ghost use Rattle.ssh_review.specs.PageFiles.{file_rows, file_section};
 ghost use Rattle.ssh_review.specs.PageListing.{HasHostRow, HasRow};
+ghost use Rattle.ssh_review.specs.PagePlaces.{file_places};
 ghost use Rattle.ssh_review.specs.Rows.{rows_of};
 ghost use Rattle.ssh_review.specs.declared.records.RecordForm.TheVariants.{AsRow};
 
@@ -47,4 +53,16 @@ fn row_listed_rule()
         → AllByRecursion (λ c. c < 256) file
         → host_decision file claim vouched ≡ Granted n rights reasons evidence
         → HasHostRow asking number file n }
+{}
+
+/// The lines of a file that a page lists under a code are those that have a finding of it, each once
+/// and in their order, where all texts are bytes.
+fn listed_places_rule()
+    ensures { (kind : FileKind) (c : Code) (number : ℕ) (asking : Asking) (name file : List ℕ)
+        → number < 2 ^ 64
+        → length file ≤ file_limit
+        → IsOfBytes (file_rows kind number asking file)
+        → IsOfBytes (file_section kind number asking name file)
+        → HasPlaces c (file_section kind number asking name file)
+        (file_places kind c number asking file) }
 {}
