@@ -11,5 +11,6 @@ mod StandInLemmas
 pub mod DenialLemmas
 mod ScanLemmas
 mod PassedLemmas
+mod ReasonLemmas
 mod HostLemmas
 pub mod FingerprintLemmas

@@ -8,7 +8,9 @@ use Rattle.ssh_rules.specs.declared.admission.LineVerdict.TheVariants.{Admits, S
 use Rattle.ssh_trust.specs.LoginDecision.{line_verdict}
 use Rattle.ssh_findings.specs.Facts.{facts_of}
 use Rattle.ssh_findings.specs.OpenSsh.{may_refuse}
+use Rattle.ssh_text.specs.Text.{lines_of, numbered}
 use Rattle.ssh_print.specs.declared.asked_key.Admitting.{Admitting}
+use Rattle.ssh_print.specs.PassedLines.{line_from}
 
 -- the facts of a line that admits, and the rights that it grants
 abbrev pub admitting_by : LoginClaim → LineVerdict AuthEntry → Option Admitting
@@ -32,3 +34,7 @@ or_later n (Some a) later = Some (n, a)
 abbrev pub first_line : LoginClaim → Bool → List (ℕ × List ℕ) → Option (ℕ × Admitting)
 first_line claim firm [] = None
 first_line claim firm (l ∷ lines) = or_later l.0 (counted firm (line_admitting claim l.1)) (first_line claim firm lines)
+
+-- the line of a file with this number, if it admits
+unfoldable pub admitting_at : LoginClaim → ℕ → List ℕ → Option (ℕ × Admitting)
+admitting_at claim n file = or_later n (line_admitting claim (line_from n (numbered 1 (lines_of file)))) None

@@ -26,6 +26,8 @@ pub mod PassedLines
 pub mod ShownNeeds
 pub mod Details
 pub mod OtherLines
+pub mod ReasonLines
+pub mod Answering
 pub mod Denials
 pub mod KnownPossible
 pub mod PassedOver

@@ -67,17 +67,17 @@ more_line false = []
 abbrev pub possible_text : Subject → Bool → List (ℕ × WhyPossible) → List ℕ
 possible_text who first lines = flat_map (possible_line who first) (take 100 lines) ++ more_line (nat_lt 100 (length lines))
 
+-- these lines of an authorized_keys file
+abbrev pub lines_other : Bool → List (ℕ × WhyPossible) → OtherLines
+lines_other first lines = record { may_admit = nat_lt 0 (length lines); text = possible_text Client first lines }
+
 -- of all lines of a file, or of those before one
 unfoldable pub possible_other : LoginClaim → Option ℕ → List ℕ → OtherLines
-possible_other claim before file =
-    let lines = take 101 (possible_lines claim before (numbered 1 (lines_of file))) in
-    record { may_admit = nat_lt 0 (length lines); text = possible_text Client (is_some before) lines }
+possible_other claim before file = lines_other (is_some before) (take 101 (possible_lines claim before (numbered 1 (lines_of file))))
 
 -- the lines of a file by which OpenSSH may admit any key
 unfoldable pub unreported_other : List ℕ → OtherLines
-unreported_other file =
-    let lines = take 101 (unreported_lines (numbered 1 (lines_of file))) in
-    record { may_admit = nat_lt 0 (length lines); text = possible_text Client false lines }
+unreported_other file = lines_other false (take 101 (unreported_lines (numbered 1 (lines_of file))))
 
 -- ---- a line that OpenSSH may refuse
 

@@ -1,11 +1,12 @@
 //! The stand-in for the missing signature of a key in question, and the first line that admits the
 //! key.
 
-ghost use Rattle.std.specs.Prelude.{◌≡◌, IfOk};
+ghost use Rattle.std.specs.Prelude.{◌≡◌, IfOk, None};
 ghost use Rattle.ssh_print.specs.StandIn.{login_algorithm, security_key, signature_algorithm, stand_in};
 ghost use Rattle.ssh_text.specs.Text.{lines_of, numbered};
-ghost use Rattle.ssh_print.specs.Admitting.{admitting_by, line_admitting, counted, first_line};
+ghost use Rattle.ssh_print.specs.Admitting.{admitting_at, admitting_by, line_admitting, counted, first_line, or_later};
 
+use crate::passed::line_from;
 use ssh_entries::{AuthEntryView, KeyBuffer, read_auth_view};
 use ssh_findings::{Facts, may_refuse};
 use ssh_keys::{KeyKind, SignatureView, write_signature};
@@ -142,4 +143,29 @@ pub(crate) fn first_line(
         }
     }
     Ok(None)
+}
+
+fn with_number(number: u64, line: Option<Admitting>) -> Option<(u64, Admitting)>
+    ensures { result ≡ or_later number line None }
+{
+    match line {
+        None => None,
+        Some(line) => Some((number, line)),
+    }
+}
+
+/// The line of a file with this number, if it admits the login.
+#[tactic(auto, unfolding(crate::specs::Admitting::admitting_at))]
+pub(crate) fn admitting_at(
+    alloc: Global,
+    matcher: &LoginMatcher<'_>,
+    number: u64,
+    file: &[u8],
+) -> Result<Option<(u64, Admitting)>, AllocError>
+    ensures { IfOk result (λ line. line ≡ admitting_at matcher.now number file.now) }
+{
+    let mut buffer = KeyBuffer::new(alloc)?;
+    let line = line_from(&mut Lines::new(file), number);
+    let here = line_admitting(alloc, matcher, line, &mut buffer)?;
+    Ok(with_number(number, here))
 }

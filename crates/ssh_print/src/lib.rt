@@ -20,6 +20,7 @@
 #![tactic(auto)]
 
 mod admission_text;
+mod answering;
 mod asked_key;
 mod cert;
 mod codes;
@@ -44,6 +45,7 @@ mod table;
 mod text;
 
 pub use admission_text::{Subject, answer_text, sentence};
+pub use answering::answer_login;
 pub use asked_key::{login_algorithm, stand_in};
 pub use codes::{
     body_codes, cause_code, cause_codes, cert_codes, fault_codes, line_code, line_codes,
@@ -54,8 +56,8 @@ pub use decision_text::{carried_word, rights_lines, sshsig_response};
 pub use escaped::{EscapedPiece, PIECE_LIMIT, push_json_text, push_shown};
 pub use explaining::{ExplainError, Row, explain, explain_all, row_of};
 pub use fingerprint_key::{absent_text, find_key};
-pub use host_otherwise::other_host;
-pub use otherwise::{Otherwise, nothing_other, other_login, other_unreported};
+pub use host_otherwise::answer_host;
+pub use otherwise::{Otherwise, nothing_other, other_unreported};
 pub use response::{
     DONE, FAULT, HexPiece, Response, audit_fault, decision_response, fault_response, file_fault,
     usage_fault, value_fault, vouch_fault,

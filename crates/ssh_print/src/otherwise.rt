@@ -1,26 +1,25 @@
 //! What is printed beside the answer on an authorized_keys file: the lines by which OpenSSH may
 //! decide differently.
 
-ghost use Rattle.std.specs.Prelude.{◌≡◌, ◌++◌, IfOk, OnOk, take};
+ghost use Rattle.std.specs.Prelude.{◌≡◌, ◌++◌, IfOk, OnOk, take, true};
 ghost use Rattle.std.specs.List.{flat_map};
 ghost use Rattle.ssh_keys.specs.KeyOf.{key_of};
 ghost use Rattle.ssh_keys.specs.PublicKey.{kind_of};
 ghost use Rattle.ssh_findings.specs.OpenSsh.{has_plain_principals};
-ghost use Rattle.ssh_offers.specs.ClaimViews.{claim_of};
-ghost use Rattle.ssh_print.specs.OtherLines.{ground_text, decides_line, decides_lines, decides_words, deeper_rights, grounds_text, ignored_at, ignored_other, login_other, line_word, may_words, more_line, nothing_other, order_word, other_both, other_cause, other_login, otherwise_seen, reported_other, possible_line, possible_other, possible_text, principals_word, refused_lines, refused_other, then_lines, unreported_other};
+ghost use Rattle.ssh_print.specs.Admitting.{first_line};
+ghost use Rattle.ssh_text.specs.Text.{lines_of, numbered};
+ghost use Rattle.ssh_print.specs.OtherLines.{ground_text, decides_line, decides_lines, decides_words, deeper_rights, grounds_text, ignored_at, ignored_other, line_word, lines_other, may_words, more_line, nothing_other, order_word, other_both, other_cause, otherwise_seen, reported_other, possible_line, possible_other, possible_text, principals_word, refused_by, refused_lines, refused_other, then_lines, unreported_other};
 
 use crate::admission_text::Subject;
 use crate::asked_key::{Admitting, first_line};
 use crate::decision_text::rights_lines;
-use crate::details::login_details;
 use crate::possible::{WhyPossible, possible_lines, unreported_lines};
 use crate::shown_needs::is_security_key;
 use crate::text::push_number;
 use ssh_findings::{Facts, Ground, has_ground, may_refuse};
-use ssh_offers::LoginClaimView;
 use ssh_rights::Rights;
 use ssh_rules::LoginMatcher;
-use ssh_trust::{Cause, Decision};
+use ssh_trust::Cause;
 use std::alloc::{AllocError, Global};
 
 /// What is printed beside the answer of a trust file.
@@ -152,9 +151,25 @@ pub(crate) fn push_possible_text(
     Ok(())
 }
 
+/// These lines of an authorized_keys file.
+pub(crate) fn lines_other(
+    alloc: Global,
+    first: bool,
+    lines: &[(u64, WhyPossible)],
+) -> Result<Otherwise, AllocError>
+    ensures { IfOk result (λ other. otherwise_seen other ≡ lines_other first lines.now) }
+{
+    let mut text = Vec::new(alloc);
+    push_possible_text(&mut text, Subject::Client, first, lines)?;
+    Ok(Otherwise {
+        may_admit: lines.len() > 0,
+        text,
+    })
+}
+
 /// The lines of a file by which OpenSSH may admit the login: all of them, or those before one.
 #[tactic(auto, unfolding(crate::specs::OtherLines::possible_other))]
-fn possible_other(
+pub(crate) fn possible_other(
     alloc: Global,
     matcher: &LoginMatcher<'_>,
     before: Option<u64>,
@@ -164,12 +179,8 @@ fn possible_other(
         (λ other. otherwise_seen other ≡ possible_other matcher.now before file.now) }
 {
     let lines = possible_lines(alloc, matcher, before, file)?;
-    let mut text = Vec::new(alloc);
-    push_possible_text(&mut text, Subject::Client, before.is_some(), &lines)?;
-    Ok(Otherwise {
-        may_admit: lines.len() > 0,
-        text,
-    })
+    let other = lines_other(alloc, before.is_some(), &lines)?;
+    Ok(other)
 }
 
 fn principals_word(has_principals: bool) -> &'static [u8]
@@ -302,15 +313,16 @@ fn refused_lines(
 
 /// What decides if OpenSSH refuses the first line that admits: it skips that line, and the next one
 /// that admits decides.
-#[tactic(auto, unfolding(crate::specs::OtherLines::refused_other))]
-fn refused_other(
+pub(crate) fn refused_by(
     alloc: Global,
     matcher: &LoginMatcher<'_>,
+    first: Option<(u64, Admitting)>,
     file: &[u8],
 ) -> Result<Otherwise, AllocError>
-    ensures { IfOk result (λ other. otherwise_seen other ≡ refused_other matcher.now file.now) }
+    ensures { IfOk result (λ other. otherwise_seen other
+        ≡ refused_by first (first_line matcher.now true (numbered 1 (lines_of file.now)))) }
 {
-    match first_line(alloc, matcher, false, file)? {
+    match first {
         Some((number, line)) if may_refuse(&line.facts) => {
             let firm = first_line(alloc, matcher, true, file)?;
             let may_admit = firm.is_some();
@@ -319,6 +331,20 @@ fn refused_other(
         }
         _ => Ok(nothing_other(alloc)),
     }
+}
+
+/// The same, where the first line that admits is to be found.
+#[tactic(auto, unfolding(crate::specs::OtherLines::refused_other))]
+fn refused_other(
+    alloc: Global,
+    matcher: &LoginMatcher<'_>,
+    file: &[u8],
+) -> Result<Otherwise, AllocError>
+    ensures { IfOk result (λ other. otherwise_seen other ≡ refused_other matcher.now file.now) }
+{
+    let first = first_line(alloc, matcher, false, file)?;
+    let other = refused_by(alloc, matcher, first, file)?;
+    Ok(other)
 }
 
 fn ignored_at(alloc: Global, first: Option<(u64, Admitting)>) -> Result<Otherwise, AllocError>
@@ -368,7 +394,7 @@ fn ignored_other(
 }
 
 /// For a denial although some line admits: what OpenSSH may do by that line.
-fn other_cause(
+pub(crate) fn other_cause(
     alloc: Global,
     matcher: &LoginMatcher<'_>,
     file: &[u8],
@@ -387,54 +413,6 @@ fn other_cause(
     }
 }
 
-#[tactic(auto, unfolding(crate::specs::OtherLines::login_other))]
-fn other_of(
-    alloc: Global,
-    matcher: &LoginMatcher<'_>,
-    file: &[u8],
-    decision: &Decision,
-) -> Result<Otherwise, AllocError>
-    ensures { IfOk result
-        (λ other. otherwise_seen other ≡ login_other matcher.now file.now decision.now) }
-{
-    match decision {
-        // sshd decides by the first line that admits, so only lines before this one can come first.
-        Decision::Granted { line, .. } => {
-            let possible = possible_other(alloc, matcher, Some(*line), file)?;
-            let refused = refused_other(alloc, matcher, file)?;
-            let other = other_both(possible, &refused)?;
-            Ok(other)
-        }
-        Decision::Denied { why, .. } => {
-            let possible = possible_other(alloc, matcher, None, file)?;
-            let more = other_cause(alloc, matcher, file, *why)?;
-            let other = other_both(possible, &more)?;
-            Ok(other)
-        }
-    }
-}
-
-/// What is printed after the first lines of a decision on a login. It has the reasons with what was
-/// compared, and of a security key what it has to show. Then come the first 100 lines by which
-/// OpenSSH may admit the login and which do not admit it here. For a denial all lines of the file
-/// count, for a grant only those before its line. If OpenSSH may refuse the line that admits, it
-/// also has the line that decides in that case.
-pub fn other_login(
-    alloc: Global,
-    claim: &LoginClaimView<'_>,
-    file: &[u8],
-    decision: &Decision,
-) -> Result<Otherwise, AllocError>
-    ensures { IfOk result (λ other. otherwise_seen other
-        ≡ other_login (claim_of claim.entry.now) file.now decision.now) }
-{
-    let matcher = LoginMatcher::new(alloc, claim)?;
-    let details = login_details(alloc, &matcher, file, decision)?;
-    let more = other_of(alloc, &matcher, file, decision)?;
-    let other = other_both(reported_other(details), &more)?;
-    Ok(other)
-}
-
 /// What is printed after a denial of a key that no line of an authorized_keys file holds: the first
 /// 100 lines by which OpenSSH may admit any key, since they cannot be read here and no key was
 /// recovered from them.
@@ -443,10 +421,6 @@ pub fn other_unreported(alloc: Global, file: &[u8]) -> Result<Otherwise, AllocEr
     ensures { IfOk result (λ other. otherwise_seen other ≡ unreported_other file.now) }
 {
     let lines = unreported_lines(alloc, file)?;
-    let mut text = Vec::new(alloc);
-    push_possible_text(&mut text, Subject::Client, false, &lines)?;
-    Ok(Otherwise {
-        may_admit: lines.len() > 0,
-        text,
-    })
+    let other = lines_other(alloc, false, &lines)?;
+    Ok(other)
 }

@@ -1,6 +1,10 @@
 -- From what a trust file decides to what a list of them tells, and from that to what is answered about a key.
 use Rattle.ssh_program.proofs.Imports.{ReadToEnd, end-same, left-end, no-end, ◌≡◌, ◌∙◌, ◌<◌, ℕ, false, List, length, Option, Some, None, Result, Ok, Err, refl, sym, ap, subst, inl, inr, IfOk, lt-ltb, IfTells, SourceState, bytes_at, most_failures, after_whole, top_line, FailsLoad, IsLeft, IsTooLong, KeepsOthers, NoReadFailed, within_limit, ReadError, AuditError, Offer, Signature, WrongAlgorithm, WeakSignature, CertSignature, Address, FileTooLong, Memory, Read, Failed, Body, Salts, Signed, GivesOrMemory, OfClaim, RefusesAs, Decision, refused_response, ShowError, Offered, shown_offer_in, IsFaultOfShow, show_fault_response, Finds, line-offered, TellsFile, TellsFiles, KeyAsking, Otherness, IsReportedUnread, beside_answer, reported_by, reported_over, unread_fault, AsksBy, AsksFiles, AsksKey, AsksOffer, ReportedLines, reported_both, nothing_reported, offer_or_fault, or_shown_fault, telling, reported_of, reported_response, Deciding, answer_by, IsFaultOf, is_memory, Alike, file-alike, keeps-same, left-none, none-failed, one-failed, over_limit, read-all, file_limit, nothing_other, reported_alone_by}
 use Rattle.ssh_review.specs.Asked.{Asked}
+use Rattle.ssh_print.specs.Answering.{GivesBeside}
+use Rattle.ssh_print.specs.OtherLines.{OtherLines}
+use Rattle.ssh_print.specs.declared.otherwise.Otherwise.{Otherwise}
+use Rattle.ssh_program.specs.AdmissionsView.{reported_with}
 use Rattle.ssh_program.specs.declared.admission.AnswerForm.{AnswerForm}
 use Rattle.ssh_files.specs.declared.read.ReadError.TheVariants as fault
 use Rattle.ssh_print.specs.Responses.{Response as Shown}
@@ -8,27 +12,29 @@ use Rattle.ssh_print.specs.declared.showing.ShowError.TheVariants as show
 
 -- ---- one file
 
-answer-given : (given result : Result Decision AuditError) → is_memory result ≡ false → GivesOrMemory given result → given ≡ result
-answer-given given (Ok x) spared h = h
-answer-given given (Err (Offer x)) spared h = h
-answer-given given (Err (Signature x)) spared h = h
-answer-given given (Err WrongAlgorithm) spared h = h
-answer-given given (Err WeakSignature) spared h = h
-answer-given given (Err CertSignature) spared h = h
-answer-given given (Err Address) spared h = h
-answer-given given (Err FileTooLong) spared h = h
-answer-given given (Err Memory) spared h = cc
-answer-given given (Err Read) spared h = h
-answer-given given (Err Failed) spared h = h
-answer-given given (Err (Body x)) spared h = h
-answer-given given (Err Salts) spared h = h
+fault-given : (A : Type 0) (given : Result Decision AuditError) (e : AuditError) → is_memory {A = A} (Err e) ≡ false → GivesOrMemory given (Err e) → given ≡ Err e
+fault-given A given (Offer x) spared h = h
+fault-given A given (Signature x) spared h = h
+fault-given A given WrongAlgorithm spared h = h
+fault-given A given WeakSignature spared h = h
+fault-given A given CertSignature spared h = h
+fault-given A given Address spared h = h
+fault-given A given FileTooLong spared h = h
+fault-given A given Memory spared h = cc
+fault-given A given Read spared h = h
+fault-given A given Failed spared h = h
+fault-given A given (Body x) spared h = h
+fault-given A given Salts spared h = h
 
--- what is reported by an answer that is given
-pub bytes_reported : (who : AnswerForm) (by : Deciding) (beside : Otherness) (evidence : List Signed) (name file : List ℕ) (answer : Result Decision AuditError) (reported : ReportedLines)
-    → is_memory answer ≡ false → GivesOrMemory (answer_by by file evidence) answer → reported ≡ reported_of who name (beside_answer beside file answer) answer
+-- what is reported by an answer that is given, with what is beside it
+pub bytes_reported : (who : AnswerForm) (by : Deciding) (beside : Otherness) (evidence : List Signed) (name file : List ℕ) (answer : Result (Decision × Otherwise) AuditError) (reported : ReportedLines)
+    → is_memory answer ≡ false → GivesBeside (beside file) (answer_by by file evidence) answer → reported ≡ reported_with who name answer
     → reported ≡ reported_by who by beside evidence name file
-bytes_reported who by beside evidence name file answer reported spared given is =
-    is ∙ ap (λ (a : Result Decision AuditError). reported_of who name (beside_answer beside file a) a) (sym (answer-given (answer_by by file evidence) answer spared given))
+bytes_reported who by beside evidence name file (Ok (d, other)) reported spared (given, told) is =
+    is ∙ (ap (λ (x : OtherLines). reported_of who name x (Ok d)) told
+    ∙ ap (λ (a : Result Decision AuditError). reported_of who name (beside_answer beside file a) a) (sym given))
+bytes_reported who by beside evidence name file (Err e) reported spared given is =
+    is ∙ ap (λ (a : Result Decision AuditError). reported_of who name (beside_answer beside file a) a) (sym (fault-given (Decision × Otherwise) (answer_by by file evidence) e spared given))
 
 -- a file that was read
 pub file_reported : {R E : Type 0} (view : R → ReportedLines) (who : AnswerForm) (by : Deciding) (beside : Otherness) (evidence : List Signed) (name file bytes : List ℕ) (o t : Option SourceState) (res : Result R E) → bytes ≡ file

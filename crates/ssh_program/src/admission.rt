@@ -1,8 +1,8 @@
 //! The answers of trust files about one key, for `admits` and `trusts`, and their combined status.
 
 ghost use Rattle.std.specs.Prelude.{◌≡◌, ◌++◌, IfOk, Ok, Err, map};
-ghost use Rattle.ssh_program.specs.Admissions.{AsksBy, IsReportedUnread, and_then, beside_answer, denied_outcome, nothing_reported, outcome_of, refusal_or, status_of, telling, text_of, reported_both, reported_by, reported_of, reported_response, total_of, unread_fault};
-ghost use Rattle.ssh_program.specs.AdmissionsView.{reported_seen};
+ghost use Rattle.ssh_program.specs.Admissions.{AsksBy, IsReportedUnread, and_then, denied_outcome, nothing_reported, outcome_of, refusal_or, status_of, telling, text_of, reported_both, reported_by, reported_of, reported_response, total_of, unread_fault};
+ghost use Rattle.ssh_program.specs.AdmissionsView.{reported_seen, reported_with};
 ghost use Rattle.ssh_print.specs.OtherLines.{nothing_other, otherwise_seen};
 ghost use Rattle.ssh_review.specs.Asked.{asked_of};
 ghost use Rattle.ssh_files.specs.FilesInTurn.{TellsFile, TellsFiles};
@@ -145,36 +145,32 @@ pub(crate) fn tell_fault(
 
 /// The answer of a file for which a decision was made: the decision's lines, then which lines
 /// OpenSSH may read differently.
-fn tell_decision<Q: FileQuestion>(
+fn tell_decision(
     alloc: Global,
     who: AnswerForm,
-    question: &Q,
     name: &[u8],
-    file: &[u8],
     decision: Decision,
+    other: &Otherwise,
 ) -> Result<FileAnswer, AllocError>
-    ensures { IfOk result (λ reported. reported_seen reported ≡ reported_of who name.now
-        (Q.beside question.entry.now file.now decision) (Ok decision)) }
+    ensures { IfOk result (λ reported. reported_seen reported
+        ≡ reported_of who name.now (otherwise_seen other.now) (Ok decision)) }
 {
-    let other = question.tell_beside(alloc, file, &decision)?;
-    let outcome = Outcome::of(&decision, &other);
-    let text = answer_in(alloc, who, name, &other, &Ok(decision))?;
+    let outcome = Outcome::of(&decision, other);
+    let text = answer_in(alloc, who, name, other, &Ok(decision))?;
     Ok(FileAnswer { outcome, text })
 }
 
-fn tell_answer<Q: FileQuestion>(
+fn tell_answer(
     alloc: Global,
     who: AnswerForm,
-    question: &Q,
     name: &[u8],
-    file: &[u8],
-    answer: Result<Decision, AuditError>,
+    answer: Result<(Decision, Otherwise), AuditError>,
 ) -> Result<FileAnswer, AllocError>
-    ensures { IfOk result (λ reported. reported_seen reported ≡ reported_of who name.now
-        (beside_answer (Q.beside question.entry.now) file.now answer) answer) }
+    ensures { IfOk result
+        (λ reported. reported_seen reported ≡ reported_with who name.now answer) }
 {
     match answer {
-        Ok(decision) => tell_decision(alloc, who, question, name, file, decision),
+        Ok((decision, other)) => tell_decision(alloc, who, name, decision, &other),
         Err(error) => tell_fault(alloc, who, name, error),
     }
 }
@@ -192,11 +188,11 @@ fn tell_bytes<Q: FileQuestion>(
     ensures { IfOk result (λ reported. reported_seen reported ≡ reported_by who (Q.decides question.entry.now)
         (Q.beside question.entry.now) evidence.now name.now file.now) }
 {
-    let answer = question.decide_bytes(alloc, file, evidence);
+    let answer = question.answer_bytes(alloc, file, evidence);
     if is_memory(&answer) {
         return Err(AllocError);
     }
-    let reported = tell_answer(alloc, who, question, name, file, answer)?;
+    let reported = tell_answer(alloc, who, name, answer)?;
     Ok(reported)
 }
 
