@@ -264,6 +264,13 @@ front-written : {N A B : Type 0} (with : B → A → B) (tells : Telling N A) (s
     → WritesFront with tells start text text_of names s (text reported)
 front-written with tells start text text_of names s reported front = record { reported = reported; files = front; part = []; next = inl refl; parts = sym (append-nil (text reported)) }
 
+-- memory could not be allocated before the first file was read
+pub first_stopped : {N A B K : Type 0} (with : B → A → B) (tells : Telling N A) (start : B) (text : B → List ℕ) (text_of : A → List ℕ) (kept : B → K) (names : List N) (o t : Option SourceState)
+    (old new : Option Account) → TakesAll old new (text start) → IfTells o (λ s. TextsWritten with tells start text text_of kept names s t old new (Err stop.Memory))
+first_stopped with tells start text text_of kept names None t old new taken = tt
+first_stopped with tells start text text_of kept names (Some s) t old new taken = λ counts.
+    (text start, front-written with tells start text text_of names s start (front-reported with tells start names names s (Some s) start counts (read_first with tells start names (Some s) counts)), taken)
+
 -- a fault of memory behind the texts
 pub stopped_by_memory : {N A B K : Type 0} (with : B → A → B) (tells : Telling N A) (start : B) (text : B → List ℕ) (text_of : A → List ℕ) (kept : B → K) (answer : B → Shown) (names : List N) (o t : Option SourceState)
     (old mid new : Option Account) (status : ℕ) → IfTells o (λ s. TextsWritten with tells start text text_of kept names s t old mid (Err stop.Memory)) → WritesResponse mid new out_of_memory status

@@ -26,6 +26,7 @@ use crate::printing::{put_made, put_no_memory};
 use crate::review::{FOUND, NOTHING, ReviewKind, review_files, with_counted};
 use crate::sink::Sink;
 use crate::streaming::{FileReported, Stop, put_first_lines, put_review, put_total, put_unread};
+use ssh_entries::KeyBuffer;
 use ssh_files::{Files, read_top_line, read_whole};
 use ssh_findings::{Code, ReviewOptions};
 use ssh_keys::digest_text;
@@ -85,6 +86,7 @@ fn put_bytes_review<W: Sink>(
     sought: &[u8; 43],
     head: &[u8],
     file: &[u8],
+    buffer: &mut KeyBuffer,
     keys: &mut DistinctKeys,
     writer: &mut W,
 ) -> Result<FileReported, Stop>
@@ -97,7 +99,7 @@ fn put_bytes_review<W: Sink>(
 {
     match kind {
         ReviewKind::Auth => {
-            let records = auth_key_records(alloc, file, sought)?;
+            let records = auth_key_records(alloc, file, sought);
             put_review(
                 alloc,
                 Show::All,
@@ -106,12 +108,13 @@ fn put_bytes_review<W: Sink>(
                 head,
                 file,
                 records,
+                buffer,
                 keys,
                 writer,
             )
         }
         ReviewKind::Known => {
-            let records = known_key_records(alloc, file, sought)?;
+            let records = known_key_records(alloc, file, sought);
             put_review(
                 alloc,
                 Show::All,
@@ -120,6 +123,7 @@ fn put_bytes_review<W: Sink>(
                 head,
                 file,
                 records,
+                buffer,
                 keys,
                 writer,
             )
@@ -136,6 +140,7 @@ fn put_headed<F: Files, W: Sink>(
     sought: &[u8; 43],
     name: FileName<'_>,
     head: &[u8],
+    buffer: &mut KeyBuffer,
     files: &mut F,
     writer: &mut W,
 ) -> Result<FileReported, Stop>
@@ -150,7 +155,7 @@ fn put_headed<F: Files, W: Sink>(
         Ok(file) => {
             let mut keys = DistinctKeys::new(alloc);
             put_bytes_review(
-                alloc, kind, form, asked, sought, head, &file, &mut keys, writer,
+                alloc, kind, form, asked, sought, head, &file, buffer, &mut keys, writer,
             )
         }
         Err(fault) => {
@@ -168,6 +173,7 @@ fn put_file<F: Files, W: Sink>(
     asked: &ReviewOptions<'_>,
     sought: &[u8; 43],
     name: FileName<'_>,
+    buffer: &mut KeyBuffer,
     files: &mut F,
     writer: &mut W,
 ) -> Result<FileReported, Stop>
@@ -178,7 +184,9 @@ fn put_file<F: Files, W: Sink>(
         (F.source_state files.new) (W.account writer.old) (W.account writer.new) result }
 {
     let head = file_head(alloc, form, name)?;
-    put_headed(alloc, kind, form, asked, sought, name, &head, files, writer)
+    put_headed(
+        alloc, kind, form, asked, sought, name, &head, buffer, files, writer,
+    )
 }
 
 /// Writes the reviews of the files of these names, one after the other, and returns their total.
@@ -202,9 +210,20 @@ fn tell_files<F: Files, W: Sink>(
     put_first_lines(form, writer)?;
     let mut total = NOTHING;
     let mut stands = false;
+    let mut buffer = KeyBuffer::new(alloc)?;
     for word in names.words {
         let name = names.naming.name_of(word);
-        let reported = put_file(alloc, kind, form, asked, sought, name, files, writer)?;
+        let reported = put_file(
+            alloc,
+            kind,
+            form,
+            asked,
+            sought,
+            name,
+            &mut buffer,
+            files,
+            writer,
+        )?;
         let keys = one_key(total.counts.keys, reported.counts.keys);
         total = with_counted(total, keys, reported.counts, reported.fault);
         stands = either(stands, reported.stands);

@@ -34,6 +34,7 @@ use crate::review_zone::{given_rule, is_zone_given, zone_text};
 use crate::sink::Sink;
 use crate::streaming::{FileReported, Stop, put_first_lines, put_review, put_total, put_unread};
 use jiff::tz::TimeZone;
+use ssh_entries::KeyBuffer;
 use ssh_files::{Files, read_bits, read_whole, zone_of};
 use ssh_findings::{Code, ReviewOptions, parse_codes};
 use ssh_page::FileKind;
@@ -203,6 +204,7 @@ fn put_bytes_review<W: Sink>(
     asked: &ReviewOptions<'_>,
     head: &[u8],
     file: &[u8],
+    buffer: &mut KeyBuffer,
     keys: &mut DistinctKeys,
     writer: &mut W,
 ) -> Result<FileReported, Stop>
@@ -216,12 +218,16 @@ fn put_bytes_review<W: Sink>(
 {
     match kind {
         ReviewKind::Auth => {
-            let records = auth_records(alloc, file)?;
-            put_review(alloc, show, form, asked, head, file, records, keys, writer)
+            let records = auth_records(alloc, file);
+            put_review(
+                alloc, show, form, asked, head, file, records, buffer, keys, writer,
+            )
         }
         ReviewKind::Known => {
-            let records = known_records(alloc, file)?;
-            put_review(alloc, show, form, asked, head, file, records, keys, writer)
+            let records = known_records(alloc, file);
+            put_review(
+                alloc, show, form, asked, head, file, records, buffer, keys, writer,
+            )
         }
     }
 }
@@ -235,6 +241,7 @@ fn put_noted<W: Sink>(
     asked: &ReviewOptions<'_>,
     head: &[u8],
     file: &[u8],
+    buffer: &mut KeyBuffer,
     earlier: DistinctKeys,
     writer: &mut W,
 ) -> Result<FileNoted, Stop>
@@ -247,7 +254,7 @@ fn put_noted<W: Sink>(
 {
     let mut keys = earlier;
     let reported = put_bytes_review(
-        alloc, kind, show, form, asked, head, file, &mut keys, writer,
+        alloc, kind, show, form, asked, head, file, buffer, &mut keys, writer,
     );
     with_noted(reported, keys)
 }
@@ -261,6 +268,7 @@ fn put_headed<F: Files, W: Sink>(
     asked: &ReviewOptions<'_>,
     name: FileName<'_>,
     head: &[u8],
+    buffer: &mut KeyBuffer,
     keys: DistinctKeys,
     files: &mut F,
     writer: &mut W,
@@ -273,7 +281,9 @@ fn put_headed<F: Files, W: Sink>(
         (W.account writer.old) (W.account writer.new) result }
 {
     match read_whole(alloc, files, name.path) {
-        Ok(file) => put_noted(alloc, kind, show, form, asked, head, &file, keys, writer),
+        Ok(file) => put_noted(
+            alloc, kind, show, form, asked, head, &file, buffer, keys, writer,
+        ),
         Err(fault) => {
             let cause = files.unread_cause(name.path);
             with_noted(put_unread(alloc, form, head, fault, cause, writer), keys)
@@ -289,6 +299,7 @@ fn put_file<F: Files, W: Sink>(
     form: Form,
     asked: &ReviewOptions<'_>,
     name: FileName<'_>,
+    buffer: &mut KeyBuffer,
     keys: DistinctKeys,
     files: &mut F,
     writer: &mut W,
@@ -301,7 +312,7 @@ fn put_file<F: Files, W: Sink>(
 {
     let head = file_head(alloc, form, name)?;
     put_headed(
-        alloc, kind, show, form, asked, name, &head, keys, files, writer,
+        alloc, kind, show, form, asked, name, &head, buffer, keys, files, writer,
     )
 }
 
@@ -327,10 +338,22 @@ fn tell_files<F: Files, W: Sink>(
 {
     put_first_lines(form, writer)?;
     let mut total = NOTHING;
+    let mut buffer = KeyBuffer::new(alloc)?;
     let mut keys = DistinctKeys::new(alloc);
     for word in names.words {
         let name = names.naming.name_of(word);
-        let noted = put_file(alloc, kind, show, form, asked, name, keys, files, writer)?;
+        let noted = put_file(
+            alloc,
+            kind,
+            show,
+            form,
+            asked,
+            name,
+            &mut buffer,
+            keys,
+            files,
+            writer,
+        )?;
         let reported = noted.reported;
         keys = noted.keys;
         total = with_counted(total, keys.count(), reported.counts, reported.fault);

@@ -20,6 +20,7 @@ use crate::printing::{put_no_memory, put_whole};
 use crate::review::{ReviewKind, kind_name};
 use crate::sink::Sink;
 use sha2::{Digest, Sha256};
+use ssh_entries::KeyBuffer;
 use ssh_files::{ReadError, UnreadCause};
 use ssh_findings::ReviewOptions;
 use ssh_review::{
@@ -93,6 +94,9 @@ fn push_shown_end(
     Ok(())
 }
 
+/// The room for records that is taken at once: the text of a small file fits, and is not moved while it grows.
+const ROOM: usize = 4096;
+
 /// Writes the review of a file: its records, as they are made, and its end, where they are shown.
 /// Notes the keys of its lines. Where memory is refused, what was written are whole records, and the end is missing.
 pub(crate) fn put_review<L: LineRecords + Drop, W: Sink>(
@@ -103,6 +107,7 @@ pub(crate) fn put_review<L: LineRecords + Drop, W: Sink>(
     head: &[u8],
     file: &[u8],
     begun: Records<'_, L>,
+    buffer: &mut KeyBuffer,
     keys: &mut DistinctKeys,
     writer: &mut W,
 ) -> Result<FileReported, Stop>
@@ -116,13 +121,14 @@ pub(crate) fn put_review<L: LineRecords + Drop, W: Sink>(
         (W.account writer.old) (W.account writer.new) result }
 {
     let mut records = begun;
-    let mut out = Vec::new(alloc);
+    let mut out = Vec::with_capacity(alloc, ROOM)?;
     while records.push_some(
         alloc,
         show,
         RecordForm::AsLines(form),
         asked,
         head,
+        buffer,
         keys,
         &mut out,
     )? {

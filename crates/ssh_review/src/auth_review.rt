@@ -258,17 +258,15 @@ impl LineRecords for Earlier {
 
 /// The review of an `authorized_keys` file of these bytes, before its first record is made: a record
 /// for each entry and each line that cannot be read.
-pub fn auth_records(alloc: Global, file: &[u8]) -> Result<Records<'_, Earlier>, AllocError>
+pub fn auth_records(alloc: Global, file: &[u8]) -> Records<'_, Earlier>
     requires { length file.now ≤ file_limit }
-    ensures lines { IfOk result (λ r. lines_left r ≡ numbered 1 (lines_of file.now)) }
-    ensures left { IfOk result (λ r. (show : ShowValue) (form : RecordFormValue) (asking : Asking) (head : List ℕ)
+    ensures lines { lines_left result ≡ numbered 1 (lines_of file.now) }
+    ensures left { (show : ShowValue) (form : RecordFormValue) (asking : Asking) (head : List ℕ)
         → HasLeft AuthTells show form asking head file.now
         (shown_records show (line_reports_of form asking head [] (numbered 1 (lines_of file.now))))
-        (of_all (counts_of asking [] (numbered 1 (lines_of file.now)))) r) }
+        (of_all (counts_of asking [] (numbered 1 (lines_of file.now)))) result }
 {
-    let earlier = Earlier::new(alloc);
-    let records = Records::new(alloc, file, earlier)?;
-    Ok(records)
+    Records::new(file, Earlier::new(alloc))
 }
 
 /// Appends the end of a file that was reviewed: its counts, and the SHA-256 of its bytes.
@@ -342,7 +340,7 @@ pub fn review_auth(
     if file.len() > FILE_LIMIT {
         review_fault(alloc, form, head, FileFault::TooLong)
     } else {
-        let begun = auth_records(alloc, file)?;
+        let begun = auth_records(alloc, file);
         let whole = whole_review(alloc, form, asked, head, file, begun)?;
         Ok(whole.review)
     }

@@ -263,16 +263,15 @@ pub fn known_key_records<'a>(
     alloc: Global,
     file: &'a [u8],
     sought: &'a [u8; 43],
-) -> Result<Records<'a, ForKey<'a, EarlierHosts>>, AllocError>
+) -> Records<'a, ForKey<'a, EarlierHosts>>
     requires { length file.now ≤ file_limit }
-    ensures { IfOk result (λ r. (form : RecordFormValue) (asking : Asking) (head : List ℕ)
+    ensures { (form : RecordFormValue) (asking : Asking) (head : List ℕ)
         → HasLeft KnownKeyTells All form asking head file.now
         (host_key_records_of sought.now form asking head [] (numbered 1 (lines_of file.now)))
-        (host_key_counts_of sought.now asking [] (numbered 1 (lines_of file.now))) r) }
+        (host_key_counts_of sought.now asking [] (numbered 1 (lines_of file.now))) result }
 {
     let earlier = EarlierHosts::new(alloc);
-    let records = Records::new(alloc, file, ForKey { sought, earlier })?;
-    Ok(records)
+    Records::new(file, ForKey { sought, earlier })
 }
 
 /// The review of a `known_hosts` file for the key with this fingerprint, which is the base64 after
@@ -294,7 +293,7 @@ pub fn review_known_key(
     if file.len() > FILE_LIMIT {
         review_key_fault(alloc, form, head, FileFault::TooLong)
     } else {
-        let begun = known_key_records(alloc, file, sought)?;
+        let begun = known_key_records(alloc, file, sought);
         let whole = whole_review(alloc, form, asked, head, file, begun)?;
         Ok(whole)
     }

@@ -345,17 +345,15 @@ impl LineRecords for EarlierHosts {
 /// each entry, each revocation and each line that cannot be read. The blob of each key and each plain
 /// name are stored, no more bytes than the file has; the names of a line share one more copy of its
 /// blob.
-pub fn known_records(alloc: Global, file: &[u8]) -> Result<Records<'_, EarlierHosts>, AllocError>
+pub fn known_records(alloc: Global, file: &[u8]) -> Records<'_, EarlierHosts>
     requires { length file.now ≤ file_limit }
-    ensures lines { IfOk result (λ r. lines_left r ≡ numbered 1 (lines_of file.now)) }
-    ensures left { IfOk result (λ r. (show : ShowValue) (form : RecordFormValue) (asking : Asking) (head : List ℕ)
+    ensures lines { lines_left result ≡ numbered 1 (lines_of file.now) }
+    ensures left { (show : ShowValue) (form : RecordFormValue) (asking : Asking) (head : List ℕ)
         → HasLeft KnownTells show form asking head file.now
         (shown_records show (host_line_reports_of form asking head [] (numbered 1 (lines_of file.now))))
-        (of_all (host_counts_of asking [] (numbered 1 (lines_of file.now)))) r) }
+        (of_all (host_counts_of asking [] (numbered 1 (lines_of file.now)))) result }
 {
-    let earlier = EarlierHosts::new(alloc);
-    let records = Records::new(alloc, file, earlier)?;
-    Ok(records)
+    Records::new(file, EarlierHosts::new(alloc))
 }
 
 /// The review of a `known_hosts` file of these bytes, in which each line begins with this head
@@ -376,7 +374,7 @@ pub fn review_known(
     if file.len() > FILE_LIMIT {
         review_fault(alloc, form, head, FileFault::TooLong)
     } else {
-        let begun = known_records(alloc, file)?;
+        let begun = known_records(alloc, file);
         let whole = whole_review(alloc, form, asked, head, file, begun)?;
         Ok(whole.review)
     }

@@ -230,16 +230,15 @@ pub fn auth_key_records<'a>(
     alloc: Global,
     file: &'a [u8],
     sought: &'a [u8; 43],
-) -> Result<Records<'a, ForKey<'a, Earlier>>, AllocError>
+) -> Records<'a, ForKey<'a, Earlier>>
     requires { length file.now ≤ file_limit }
-    ensures { IfOk result (λ r. (form : RecordFormValue) (asking : Asking) (head : List ℕ)
+    ensures { (form : RecordFormValue) (asking : Asking) (head : List ℕ)
         → HasLeft AuthKeyTells All form asking head file.now
         (key_records_of sought.now form asking head [] (numbered 1 (lines_of file.now)))
-        (key_counts_of sought.now asking [] (numbered 1 (lines_of file.now))) r) }
+        (key_counts_of sought.now asking [] (numbered 1 (lines_of file.now))) result }
 {
     let earlier = Earlier::new(alloc);
-    let records = Records::new(alloc, file, ForKey { sought, earlier })?;
-    Ok(records)
+    Records::new(file, ForKey { sought, earlier })
 }
 
 /// The review of a file with these records, of which these are the counts: they are followed by the
@@ -302,7 +301,7 @@ pub fn review_auth_key(
     if file.len() > FILE_LIMIT {
         review_key_fault(alloc, form, head, FileFault::TooLong)
     } else {
-        let begun = auth_key_records(alloc, file, sought)?;
+        let begun = auth_key_records(alloc, file, sought);
         let whole = whole_review(alloc, form, asked, head, file, begun)?;
         Ok(whole)
     }

@@ -19,13 +19,14 @@
 //! The records of a large file are many times its size. So they can be made a few at a time, by
 //! `auth_records`, `known_records`, `auth_key_records` and `known_key_records`. A caller that writes
 //! those that are shown (`Show`) as they are made, and then the end of the file; `keys` then counts the
-//! different keys on its key lines:
+//! different keys on its key lines, and `buffer` serves one file after the other:
 //!
 //! ```
 //! let form = RecordForm::AsLines(Form::Text);
-//! let mut records = auth_records(alloc, file)?;
+//! let mut records = auth_records(alloc, file);
+//! let mut buffer = KeyBuffer::new(alloc)?;
 //! let mut keys = DistinctKeys::new(alloc);
-//! while records.push_some(alloc, Show::All, form, &asked, &head, &mut keys, &mut out)? {
+//! while records.push_some(alloc, Show::All, form, &asked, &head, &mut buffer, &mut keys, &mut out)? {
 //!     writer.write_all(&out)?;
 //!     out.clear();
 //! }

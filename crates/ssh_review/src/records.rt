@@ -84,29 +84,22 @@ const ENOUGH: usize = 65_536;
 #[derive(Drop)]
 pub struct Records<'a, L> {
     lines: Lines<'a>,
-    buffer: KeyBuffer,
     earlier: L,
     reported: KeyCounts,
 }
 
 impl<'a, L: LineRecords + Drop> Records<'a, L> {
     /// The review of these bytes before its first record, where this stores what later lines need.
-    pub(crate) fn new(
-        alloc: Global,
-        file: &'a [u8],
-        earlier: L,
-    ) -> Result<Records<'a, L>, AllocError>
-        ensures lines { IfOk result (λ r. r.lines ≡ (1, file.now)) }
-        ensures earlier { IfOk result (λ r. r.earlier ≡ earlier) }
-        ensures reported { IfOk result (λ r. r.reported ≡ no_key_counts) }
+    pub(crate) fn new(file: &'a [u8], earlier: L) -> Records<'a, L>
+        ensures lines { result.lines ≡ (1, file.now) }
+        ensures earlier { result.earlier ≡ earlier }
+        ensures reported { result.reported ≡ no_key_counts }
     {
-        let buffer = KeyBuffer::new(alloc)?;
-        Ok(Records {
+        Records {
             lines: Lines::new(file),
-            buffer,
             earlier,
             reported: KeyCounts::NONE,
-        })
+        }
     }
 
     /// The counts of the lines whose records were made.
@@ -124,6 +117,7 @@ impl<'a, L: LineRecords + Drop> Records<'a, L> {
         form: RecordForm,
         asked: &ReviewOptions<'_>,
         head: &[u8],
+        buffer: &mut KeyBuffer,
         keys: &mut DistinctKeys,
         out: &mut Vec<u8>,
     ) -> Result<bool, AllocError>
@@ -142,16 +136,9 @@ impl<'a, L: LineRecords + Drop> Records<'a, L> {
             Some((number, line)) => {
                 let place = LineRef { head, number };
                 let before = out.len();
-                let reported = self.earlier.push_record(
-                    alloc,
-                    form,
-                    asked,
-                    &place,
-                    line,
-                    &mut self.buffer,
-                    keys,
-                    out,
-                )?;
+                let reported = self
+                    .earlier
+                    .push_record(alloc, form, asked, &place, line, buffer, keys, out)?;
                 leave_shown(out, before, show.shows(reported.counts));
                 self.reported = self.reported.plus(reported);
                 Ok(true)
@@ -161,7 +148,8 @@ impl<'a, L: LineRecords + Drop> Records<'a, L> {
 
     /// Appends the records of further lines, those that are shown, until there are some 65,536 bytes
     /// of them, or no line is left. Returns whether a line may be left. What is shown, the format, the
-    /// options and the name are to be the same in each call.
+    /// options and the name are to be the same in each call. Keys are decoded into the buffer, whatever
+    /// is in it.
     pub fn push_some(
         &mut self,
         alloc: Global,
@@ -169,6 +157,7 @@ impl<'a, L: LineRecords + Drop> Records<'a, L> {
         form: RecordForm,
         asked: &ReviewOptions<'_>,
         head: &[u8],
+        buffer: &mut KeyBuffer,
         keys: &mut DistinctKeys,
         out: &mut Vec<u8>,
     ) -> Result<bool, AllocError>
@@ -182,7 +171,7 @@ impl<'a, L: LineRecords + Drop> Records<'a, L> {
             (keys_left L.keys_on self.new keys.new ≡ keys_left L.keys_on self.old keys.old) }
         ensures none { IfOk result (λ more. more ≡ false → lines_left self.new ≡ []) }
     {
-        while self.push_next(alloc, show, form, asked, head, keys, out)? {
+        while self.push_next(alloc, show, form, asked, head, buffer, keys, out)? {
             if out.len() >= ENOUGH {
                 return Ok(true);
             }
@@ -206,8 +195,9 @@ pub(crate) fn push_all<L: LineRecords + Drop>(
         → HasLeft L.tells All form (asking_of asked.entry.now) head.now file text all begun.entry
         → (out.new.items ≡ out.old.items ++ text) × (reported ≡ all)) }
 {
+    let mut buffer = KeyBuffer::new(alloc)?;
     let mut records = begun;
-    while records.push_some(alloc, Show::All, form, asked, head, keys, out)? {}
+    while records.push_some(alloc, Show::All, form, asked, head, &mut buffer, keys, out)? {}
     Ok(records.reported)
 }
 

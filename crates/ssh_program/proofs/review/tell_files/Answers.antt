@@ -5,7 +5,7 @@ use Rattle.ssh_program.specs.FileReviews.{file_kept}
 use Rattle.ssh_review.specs.declared.end.Total.{Total}
 use Rattle.ssh_program.specs.declared.review.FileNoted.{FileNoted}
 use Rattle.ssh_program.proofs.FileLemmas.{SofarKept, noted-more, sofar_kept}
-use Rattle.ssh_program.proofs.StreamLemmas.{before_stopped, failed_stop, kept_part, written_first, written_last, written_stopped, written_reported}
+use Rattle.ssh_program.proofs.StreamLemmas.{before_stopped, failed_stop, first_stopped, kept_part, written_first, written_last, written_stopped, written_reported}
 use Rattle.ssh_program.proofs.review.tell_files.Goals as goal
 
 pub returns-in_err-put_first_lines-clause-reported : goal.returns-in_err-put_first_lines-clause-reported
@@ -18,6 +18,16 @@ pub returns-in_err-put_first_lines-clause-failed : goal.returns-in_err-put_first
 returns-in_err-put_first_lines-clause-failed g c =
     let p = err_from_is_err_and c.from_residual.result c.from_residual.ensures.1 in
     rw (p.1, p.2) (failed_stop (Unit {0}) Total _ (g.W.Sink.account c.put_first_lines.new.writer) c.in_err-put_first_lines.ensures.failed)
+
+pub returns-in_err-buffer-clause-reported : goal.returns-in_err-buffer-clause-reported
+returns-in_err-buffer-clause-reported g c =
+    let p = err_from_is_err_and c.from_residual-in_err-buffer.result c.from_residual-in_err-buffer.ensures.1 in
+    rw (p.1, p.2) (first_stopped with_file (telling_review c.args.kind c.args.show c.args.form (asking_of c.args.asked.now)) (lines_before c.args.form) (λ reported. reported.text) (λ f. f.text) (λ reported. reported.total) (names_seen c.args.names)
+    (g.F.Files.source_state c.args.files.now) (g.F.Files.source_state c.args.files.now) (g.W.Sink.account c.args.writer.now) (g.W.Sink.account c.put_first_lines.new.writer) c.in_ok-put_first_lines.ensures.put)
+
+pub returns-in_err-buffer-clause-failed : goal.returns-in_err-buffer-clause-failed
+returns-in_err-buffer-clause-failed g c =
+    let p = err_from_is_err_and c.from_residual-in_err-buffer.result c.from_residual-in_err-buffer.ensures.1 in rw (p.1, p.2) c.in_ok-put_first_lines.ensures.failed
 
 pub loop-word-init : goal.loop-word-init
 loop-word-init g c = (

@@ -9,6 +9,17 @@ use Rattle.ssh_program.proofs.PutLemmas.{put-all, put-broken, put-first, put-las
 use Rattle.ssh_program.proofs.WrittenText.{none_failed}
 use Rattle.ssh_program.proofs.streaming.put_review.Goals as goal
 
+pub returns-in_err-out-clause-failed : goal.returns-in_err-out-clause-failed
+returns-in_err-out-clause-failed g c = let p = err_from_is_err_and c.from_residual.result c.from_residual.ensures.1 in rw (p.1, p.2) c.requires
+
+pub returns-in_err-out-clause-put : goal.returns-in_err-out-clause-put
+returns-in_err-out-clause-put g c =
+    let p = err_from_is_err_and c.from_residual.result c.from_residual.ensures.1 in
+    let old = g.W.Sink.account c.args.writer.now in
+    let asking = asking_of c.args.asked.now in
+    λ text all w. rw (p.1, p.2) (put-refused {K = FileReported} g.L.LineRecords.tells c.args.show c.args.form asking c.args.head.now c.args.file.now text (sha256 c.args.file.now) all (record { counts = all.counts; stands = all.stands; fault = None }) c.args.begun c.args.begun
+    old old (put-first g.L.LineRecords.tells c.args.show c.args.form asking c.args.head.now c.args.begun old) w)
+
 pub loop-out-init : goal.loop-out-init
 loop-out-init g c = (
   c.requires,
@@ -32,11 +43,11 @@ loop-out-preserved g c =
     )
 
 pub returns-in_err-push_some-clause-failed : goal.returns-in_err-push_some-clause-failed
-returns-in_err-push_some-clause-failed g c = let p = err_from_is_err_and c.from_residual.result c.from_residual.ensures.1 in rw (p.1, p.2) c.loop-out.invariant.0
+returns-in_err-push_some-clause-failed g c = let p = err_from_is_err_and c.from_residual-in_err-push_some.result c.from_residual-in_err-push_some.ensures.1 in rw (p.1, p.2) c.loop-out.invariant.0
 
 pub returns-in_err-push_some-clause-put : goal.returns-in_err-push_some-clause-put
 returns-in_err-push_some-clause-put g c =
-    let p = err_from_is_err_and c.from_residual.result c.from_residual.ensures.1 in
+    let p = err_from_is_err_and c.from_residual-in_err-push_some.result c.from_residual-in_err-push_some.ensures.1 in
     λ text all w. rw (p.1, p.2) (put-refused {K = FileReported} g.L.LineRecords.tells c.args.show c.args.form (asking_of c.args.asked.now) c.args.head.now c.args.file.now text (sha256 c.args.file.now) all (record { counts = all.counts; stands = all.stands; fault = None }) c.args.begun c.loop-out.records
     (g.W.Sink.account c.args.writer.now) (g.W.Sink.account c.loop-out.writer) c.loop-out.invariant.2 w)
 

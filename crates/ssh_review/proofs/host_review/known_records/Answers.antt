@@ -13,7 +13,7 @@ returns-clause-left c =
     let file = c.args.file.now in
     let lines = numbered 1 (lines_of file) in
     let line_reports = host_line_reports_of form asking name [] lines in
-    first-left KnownTells show form asking name file (shown_records show line_reports) (of_all (host_counts_of asking [] lines)) c.new-earlier.result lines line_reports c.in_ok-records.records
-    c.in_ok-records.ensures.earlier (ap (λ s. numbered s.0 (lines_of s.1)) c.in_ok-records.ensures.lines) c.in_ok-records.ensures.reported (known-fits asking file c.requires)
-    (known-first form asking name file c.new-earlier.result (AreBytes-from file (λ i. omega (arith, c.type_inv.file i))) c.new-earlier.ensures.stands c.new-earlier.ensures.bytes c.new-earlier.ensures.sum)
+    first-left KnownTells show form asking name file (shown_records show line_reports) (of_all (host_counts_of asking [] lines)) c.new.result lines line_reports c.new-2.result
+    c.new-2.ensures.earlier (ap (λ s. numbered s.0 (lines_of s.1)) c.new-2.ensures.lines) c.new-2.ensures.reported (known-fits asking file c.requires)
+    (known-first form asking name file c.new.result (AreBytes-from file (λ i. omega (arith, c.type_inv.file i))) c.new.ensures.stands c.new.ensures.bytes c.new.ensures.sum)
     refl (hosts-report-counts form asking name [] lines)

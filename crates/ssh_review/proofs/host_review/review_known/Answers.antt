@@ -8,4 +8,4 @@ use Rattle.ssh_review.proofs.host_review.review_known.Goals as goal
 pub returns-in_ok-whole : goal.returns-in_ok-whole
 returns-in_ok-whole c =
     known-whole c.args.form (asking_of c.args.asked.now) c.args.head.now c.args.file.now (review c.in_ok-whole.whole.review) c.if-file-gt-FILE_LIMIT.false
-    (ap (λ (k : KeyReview). k.file) (c.in_ok-whole.ensures _ _ (c.in_ok-begun.ensures.left All (AsLines c.args.form) (asking_of c.args.asked.now) c.args.head.now)))
+    (ap (λ (k : KeyReview). k.file) (c.in_ok-whole.ensures _ _ (c.known_records-begun.ensures.left All (AsLines c.args.form) (asking_of c.args.asked.now) c.args.head.now)))

@@ -14,7 +14,7 @@ returns c =
     let file = c.args.file.now in
     let sought = c.args.sought.now in
     let lines = numbered 1 (lines_of file) in
-    first-left AuthKeyTells All form asking name file (key_records_of sought form asking name [] lines) (key_counts_of sought asking [] lines) _ lines (key_line_reports_of sought form asking name [] lines) c.in_ok-records.records
-    c.in_ok-records.ensures.earlier (ap (λ s. numbered s.0 (lines_of s.1)) c.in_ok-records.ensures.lines) c.in_ok-records.ensures.reported (auth-key-fits sought asking file c.requires)
+    first-left AuthKeyTells All form asking name file (key_records_of sought form asking name [] lines) (key_counts_of sought asking [] lines) _ lines (key_line_reports_of sought form asking name [] lines) c.new.result
+    c.new.ensures.earlier (ap (λ s. numbered s.0 (lines_of s.1)) c.new.ensures.lines) c.new.ensures.reported (auth-key-fits sought asking file c.requires)
     (record { held = []; stored = c.new-earlier.ensures.stands; are_reports = refl })
     (sym (key-all-shown sought form asking name [] lines)) (key-report-counts sought form asking name [] lines)
