@@ -1,8 +1,8 @@
 #!/usr/bin/env python3
 """Tries the wrong edits of checks/planted outside the gate: the prover has to refuse each. Of the
-largest crates, where an edit takes the prover minutes, at most three stand in must-fail/, where the gate tries them, and the
-others here. Of the small ones those are here by which nobody gets in or is hidden, and no revocation is lost. Run it after a
-change of a contract of a crate that has edits here.
+largest crates, where an edit takes the prover minutes and the first one a second proof of the crate, few or none stand in
+must-fail/, where the gate tries them, and the others here. Of the small ones those are here by which nobody gets in or is hidden,
+and no revocation is lost. Run it after a change of a contract of a crate that has edits here.
 
 usage: planted.py [--list] [CRATE ..]
 
