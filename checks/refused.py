@@ -13,7 +13,7 @@ import tempfile
 QUIET_RUNS = 2
 
 # The growths that are refused where not every one is: 0 stands for none. Most rows have fewer than four.
-SOME = (0, 1, 2, 3, 4, 6, 9, 14, 21, 30, 60, 61)
+SOME = (0, 1, 2, 3, 4, 6, 9, 14, 21, 30, 80, 81)
 
 # How many runs are made side by side: each compiles its crate anew, in about a gigabyte.
 SIDE_BY_SIDE = max(1, min(3, (os.cpu_count() or 2) - 1))
