@@ -51,6 +51,8 @@ from rewrite import kind_of, loosened
 CRATE = HERE.parent / "crates" / "ssh_audit"
 NEEDS = {"ssh-keygen": "openssh-client", "sshd": "openssh-server", "openssl": "openssl", "gcc": "gcc", "jq": "jq"}
 COUNTS = re.compile(r"(\d+) passed, (\d+) failed")
+# How long rt ci took, as .ci/run writes it behind what rt ci printed.
+TOOK = re.compile(r"^rt ci took .*\n", re.MULTILINE)
 # What a check says that it did not try.
 MISSING = re.compile(r"^\S+ is missing.*\n", re.MULTILINE)
 # Where TERM names a terminal the program says more on standard error. help.py sets it.
@@ -883,9 +885,12 @@ def main():
     if asked.after is not None:
         for name in ("library_rows.py", "refused_calls.py", "sanitized.py"):
             other_check(name, tally)
-        passed, failed = counts_of(asked.after.read_text(errors="replace")) or (0, 1)
+        log = asked.after.read_text(errors="replace")
+        passed, failed = counts_of(TOOK.sub("", log)) or (0, 1)
         tally.passed += passed
         tally.failed += failed
+        # Of a long output often the end alone is kept.
+        print("".join(TOOK.findall(log)), end="")
     print(f"{tally.passed} passed, {tally.failed} failed")
     return 1 if tally.failed else 0
 
