@@ -1,10 +1,10 @@
 -- The set of the keys that were noted, key by key.
 use Rattle.ssh_review.proofs.Imports.{◌≡◌, ◌∙◌, ◌+◌, ◌++◌, ℕ, nat_lt, Bool, true, false, cond, List, [], ◌∷◌, length, refl, sym, ap, subst, flat_map, lines_of, numbered, Some, None, append_assoc, append-nil}
-use Rattle.std.proofs.Common.{arith, ◌≤◌, ◌<◌, not, ◌||◌, Result, Ok, Err, OnOk, if◌then◌else◌}
+use Rattle.std.proofs.Common.{arith, ◌≤◌, ◌<◌, not, ◌||◌, Result, Ok, Err, OnOk, if◌then◌else◌, nat_eq}
 use Rattle.std.proofs.lemmas.Bool.{lt-ltb, ltb-true, le-ltb}
 use Rattle.std.specs.BTreeMap.{is_at}
 use Rattle.std.specs.Cmp.{eq_by_cmp_equiv}
-use Rattle.std.specs.Cmp.Lexicographic.{nat_list_cmp_total}
+use Rattle.std.specs.Cmp.Lexicographic.{nat_list_cmp_total, pointwise, texts_ties}
 use Rattle.std.specs.FinSet as set
 use Rattle.std.specs.List.{list_any}
 use Rattle.ssh_page.specs.declared.file.FileKind.{FileKind}
@@ -15,8 +15,13 @@ use Rattle.ssh_review.specs.DistinctKeys.{KeySet, file_keys, keys_seen, line_key
 same_keys : set.IsAntisymmetric print_order
 same_keys = set.slice_cmp-IsAntisymmetric set.nat_cmp-IsAntisymmetric
 
+-- as the hash set compares them
 abbrev has_key : List (List ℕ) → List ℕ → Bool
-has_key keys key = list_any (is_at (print_order key)) keys
+has_key keys key = list_any (pointwise nat_eq key) keys
+
+-- a fingerprint is equal to another exactly where neither comes first
+any-same : (keys : List (List ℕ)) (key : List ℕ) → list_any (is_at (print_order key)) keys ≡ has_key keys key
+any-same keys key = λ i. list_any (λ other. sym (texts_ties key other) i) keys
 
 abbrev key_set : List (List ℕ) → set.FinSet print_order
 key_set keys = set.from_list keys
@@ -30,14 +35,18 @@ or-cond : (a b : Bool) → cond a true b ≡ (a || b)
 or-cond true b = refl
 or-cond false b = refl
 
--- the keys of the tree are those of the set
-set-step : (old new : List (List ℕ)) (key : List ℕ) → ((q : List ℕ) → has_key new q ≡ cond (is_at (print_order key) q) true (has_key old q))
+-- the set has a key exactly where the hash set has it
+has-same : (keys : List (List ℕ)) (key : List ℕ) → set.contains (key_set keys) key ≡ has_key keys key
+has-same keys key = set.contains-from_list nat_list_cmp_total keys key ∙ any-same keys key
+
+-- the keys of the hash set are those of the set
+set-step : (old new : List (List ℕ)) (key : List ℕ) → ((q : List ℕ) → has_key new q ≡ cond (pointwise nat_eq key q) true (has_key old q))
     → key_set new ≡ set.insert (key_set old) key
 set-step old new key h = set.same_set nat_list_cmp_total same_keys (key_set new) (set.insert (key_set old) key) (λ q.
-    set.contains-from_list nat_list_cmp_total new q
+    has-same new q
     ∙ (h q
-    ∙ (ap (λ b. cond b true (has_key old q)) ((eq_by_cmp_equiv nat_list_cmp_total).symm key q)
-    ∙ (ap (λ b. cond (is_at (print_order q) key) true b) (sym (set.contains-from_list nat_list_cmp_total old q))
+    ∙ (ap (λ b. cond b true (has_key old q)) (texts_ties key q ∙ (eq_by_cmp_equiv nat_list_cmp_total).symm key q)
+    ∙ (ap (λ b. cond (is_at (print_order q) key) true b) (sym (has-same old q))
     ∙ (or-cond (is_at (print_order q) key) (set.contains (key_set old) q)
     ∙ sym (set.contains-insert nat_list_cmp_total (key_set old) key q))))))
 
@@ -45,17 +54,17 @@ len-step : (b : Bool) (n m size : ℕ) → n ≡ size → m ≡ size + (if not b
 len-step true n m size is more = omega (arith, is, more)
 len-step false n m size is more = omega (arith, is, more)
 
--- the set has as many keys as the tree
-pub len-kept : (added : Bool) (old new : List (List ℕ)) (key : List ℕ) → ((q : List ℕ) → has_key new q ≡ cond (is_at (print_order key) q) true (has_key old q))
+-- the set has as many keys as the hash set
+pub len-kept : (added : Bool) (old new : List (List ℕ)) (key : List ℕ) → ((q : List ℕ) → has_key new q ≡ cond (pointwise nat_eq key q) true (has_key old q))
     → added ≡ not (has_key old key) → length new ≡ length old + (if added then 1 else 0) → set.len (key_set old) ≡ length old → set.len (key_set new) ≡ length new
 len-kept added old new key updates is more len =
     ap set.len (set-step old new key updates)
     ∙ (set.len-insert nat_list_cmp_total (key_set old) key
-    ∙ (ap (λ b. cond b (set.len (key_set old)) (set.len (key_set old) + 1)) (set.contains-from_list nat_list_cmp_total old key)
+    ∙ (ap (λ b. cond b (set.len (key_set old)) (set.len (key_set old) + 1)) (has-same old key)
     ∙ len-step (has_key old key) (set.len (key_set old)) (length new) (length old) len (more ∙ ap (λ (b : Bool). length old + (if b then 1 else 0)) is)))
 
 -- a set that is small enough sees the key
-pub key-noted : (old new : List (List ℕ)) (key : List ℕ) → ((q : List ℕ) → has_key new q ≡ cond (is_at (print_order key) q) true (has_key old q))
+pub key-noted : (old new : List (List ℕ)) (key : List ℕ) → ((q : List ℕ) → has_key new q ≡ cond (pointwise nat_eq key q) true (has_key old q))
     → length old ≤ 65536 → set.len (key_set old) ≡ length old → keys_seen new ≡ with_key (keys_seen old) key
 key-noted old new key updates few len =
     let small : nat_lt 65536 (set.len (key_set old)) ≡ false = le-ltb 65536 (set.len (key_set old)) (omega (arith, few, len)) in

@@ -4,17 +4,18 @@ ghost use Rattle.std.specs.Prelude.{◌≡◌, [], OnOk};
 ghost use Rattle.ssh_review.specs.DistinctKeys.{key_count, keys_seen, with_key};
 
 use std::alloc::{AllocError, Global};
-use std::collections::BTreeSet;
+use std::collections::HashSet;
 use std::marker::Model;
 
 /// The most keys that are counted.
 const MOST_KEYS: usize = 65_536;
 
 /// The different keys on the key lines of files, by their fingerprints. Where there are more than
-/// 65,536 no further key is stored, so that memory does not grow with the number of files.
+/// 65,536 no further key is stored, so that memory does not grow with the number of files, and keys
+/// that were made to have one hash slow a review only up to there.
 #[derive(Drop)]
 pub struct DistinctKeys {
-    prints: BTreeSet<[u8; 43]>,
+    prints: HashSet<[u8; 43]>,
 }
 
 impl Model for DistinctKeys {
@@ -38,7 +39,7 @@ impl DistinctKeys {
         ensures { result ≡ keys_seen [] }
     {
         DistinctKeys {
-            prints: BTreeSet::new(alloc),
+            prints: HashSet::new(alloc),
         }
     }
 
