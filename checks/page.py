@@ -68,6 +68,8 @@ return {
     groups: [...document.querySelectorAll('#mend>h3')].map(h => [h.className, text(h), [...h.nextElementSibling.nextElementSibling.children].map(e =>
         e.localName == 'dt' ? [text(e.querySelector('.cd')), text(e.querySelector('.n')), e.querySelector('svg').getAttribute('viewBox'), e.querySelector('rect').getAttribute('width'), text(e.querySelector('.mean'))] : text(e.firstElementChild))]),
     places: [...document.querySelectorAll('#mend dd')].map(d => [text(d.previousElementSibling.querySelector('.cd')), [...d.children].slice(1).map(p => [p.className, text(p)]), [...d.querySelectorAll('.places>a')].map(a => [a.getAttribute('href'), text(a.querySelector('code')), text(a)])]),
+    keys: [...document.querySelectorAll('#keys>article')].map(a => [a.id, text(a.querySelector('h3>code')), text(a.querySelector('samp')), text(a.querySelector('p')), [...a.querySelectorAll('.places>a')].map(l => [l.getAttribute('href'), text(l.querySelector('code')), text(l)])]),
+    keys_say: [...document.querySelectorAll('#keys>p')].map(text),
     rest: [...document.querySelectorAll('#mend>p')].filter(p => p.className != 'says' || p.previousElementSibling.localName != 'h3').map(text), absent: [...document.querySelectorAll('#mend>ul>li')].map(text),
 };})()"""
 # The least contrast of a text with its ground, as WCAG 2.2 has it, and which text that is.
@@ -219,6 +221,41 @@ def wrong_places(read):
             yield code, links, wanted
 
 
+def rows_by_key(read):
+    """Each key of the rows, and the rows that have it, with the name of their file, in the order of files and lines."""
+    keys = collections.defaultdict(list)
+    for file in read["files"]:
+        for row in file["rows"]:
+            if row["key"]:
+                keys[row["key"]].append((file, row))
+    return keys
+
+
+def wrong_keys(read):
+    """What is wrong in the list of keys: each line with a key is there once, below its key, with the comment of the first; those in most
+    files come first."""
+    keys = rows_by_key(read)
+    for name, comment, key, said, links in read["keys"]:
+        rows = keys.pop(key, [])
+        wanted = [[f"#{row['id']}", file["name"], f"{file['name']}:{row['number']}"] for file, row in rows]
+        files = len({file["id"] for file, _ in rows})
+        counts = f"{key} in {files} file{'s' * (files != 1)}, on {len(rows)} line{'s' * (len(rows) != 1)}."
+        if not rows or (name, comment, said, links) != (rows[0][1]["id"].replace("f", "k", 1), rows[0][1]["comment"], counts, wanted):
+            yield key, name, comment, said, links
+    for key, rows in keys.items():
+        yield "not in the list", key, [row["id"] for _, row in rows]
+    in_files = [len({link[0].split("l")[0] for link in links}) for *_, links in read["keys"]]
+    if in_files != sorted(in_files, reverse=True):
+        yield "in another order", in_files
+
+
+def key_rows(read):
+    """What is said of the keys, by the lines that have them."""
+    keys = rows_by_key(read)
+    yield "each line with a key is once in the list of keys", list(wrong_keys(read)), []
+    yield "the number of keys", read["keys_say"], [f"{len(keys)} different keys, on {sum(map(len, keys.values()))} lines. Those in most files come first."]
+
+
 def header_rows(read, asked):
     """What is said above the lines, by what stands at them."""
     found, total, codes = counted(read), asked.objects[-1], reference_page.CODES[asked.kind]
@@ -272,6 +309,7 @@ def dom_rows(opened, asked):
     yield "links to lines", list(wrong_links(read)), []
     yield "classes", list(wrong_classes(read)), []
     yield from header_rows(read, asked)
+    yield from key_rows(read)
 
 
 def contrast_rows(opened):
@@ -343,6 +381,12 @@ WRONG = (
     ("the place of the line before", 'page.put("PlaceFile").say(file).put("LineId").say(line)', 'page.put("PlaceFile").say(file).put("LineId").say(max(line - 1, 1))'),
     ("the name of another file", 'places[code].append((end["file"], number', 'places[code].append((files[0][1]["file"], number'),
     ("a place is left out", 'put_places(page, [] if SOON[code] == "p" else places)', 'put_places(page, [] if SOON[code] == "p" else places[:-1])'),
+    ("the list of keys has a line without a key", '            if made["key"]:\n                keys', '            if True:\n                keys'),
+    ("a line is left out of the list of keys", "                keys[made[\"key\"]].append", "                made[\"line\"] != 7 and keys[made[\"key\"]].append"),
+    ("a line stands below the key of the line before", "keys[made[\"key\"]].append", "keys[records[max(records.index(made) - 1, 0)][\"key\"] or made[\"key\"]].append"),
+    ("a key has the comment of its last line", "    comment, _, file, line = rows[0]\n", "    comment, _, file, line = rows[0]\n    comment = rows[-1][0]\n"),
+    ("a key is in as many files as lines", "    files = len({file for _, _, file, _ in rows})", "    files = len(rows)"),
+    ("keys in the order of their fingerprints", "key=lambda one: -len(", "key=lambda one: 0 * len("),
     ("what to do about another code", "say(REMEDIES[code])", 'say(REMEDIES["F3"])'),
     ("a code that was found is not found", "if code not in found]", 'if code not in found or code == "F9"]'),
     ("another code was looked for", 'if code in total["told"]]', 'if code in total["told"] or code == "F15"]'),

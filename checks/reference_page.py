@@ -187,7 +187,7 @@ PIECES = {
     "TermEnd": "</dd>\n",
     "HeaderEnd": '</dl>\n<p class="says">Text on a tinted ground, <code>like this</code>, comes from the files: whoever can write there wrote it. It is printable '
     "ASCII; every other byte, and the backslash, is shown as \\x and two digits.</p>\n"
-    '<nav aria-label="Parts of this page"><a href="#mend">What has to be mended</a> <a href="#lines">Every line</a> <a href="#files">Files</a> '
+    '<nav aria-label="Parts of this page"><a href="#mend">What has to be mended</a> <a href="#keys">Keys</a> <a href="#lines">Every line</a> <a href="#files">Files</a> '
     '<a href="#sign">Sign</a></nav>\n</header>\n<main>\n',
     # what has to be mended
     "Mend": '<section id="mend">\n<h2>What has to be mended</h2>\n',
@@ -209,6 +209,11 @@ PIECES = {
     "Absent": '<p class="says">Looked for in every line, and not found:</p>\n<ul>\n',
     "Item": "<li>",
     "LeftOut": '<p class="says">Not looked for:',
+    # where each key stands
+    "Keys": '<section id="keys">\n<h2>Where each key stands</h2>\n<p class="says">',
+    "Key": '<article class="key" id="k',
+    "KeyPrint": "<samp>SHA256:",
+    "KeyEnd": "</p>\n</article>\n",
     "Lines": '<section id="lines">\n<h2>Every line, by file</h2>\n<div class="all">\n',
     "LinesEnd": "</div>\n</section>\n",
     "PageEnd": "</main>\n<footer><p>Written by ssh_audit review --form html. No script, nothing from outside, no link out.</p></footer>\n</body>\n</html>\n",
@@ -521,6 +526,44 @@ def put_mend(page, total, found, looked_for, places):
     page.put("MendEnd")
 
 
+# ---- where each key stands
+
+
+def keys_of(files):
+    """Each different key, and of each line that has it the comment, the name of its file, the file's number, and its own. Those in most
+    files come first, and those in as many in the order of their fingerprints."""
+    keys = collections.defaultdict(list)
+    for number, (records, end) in enumerate(files):
+        for made in records:
+            if made["key"]:
+                keys[made["key"]].append((made["comment"], end["file"], number, made["line"]))
+    return sorted(sorted(keys.items()), key=lambda one: -len({file for _, _, file, _ in one[1]}))
+
+
+def put_key_of(page, key, rows):
+    comment, _, file, line = rows[0]
+    page.put("Key").say(file).put("LineId").say(line).put("SectionName")
+    if comment:
+        page.tell(comment)
+    else:
+        page.put("NoComment")
+    files = len({file for _, _, file, _ in rows})
+    page.put("SectionSays", "KeyPrint").say(key.removeprefix("SHA256:")).put("FingerprintEnd")
+    page.say(f" in {few(files, 'file', 'files')}, on {few(len(rows), 'line', 'lines')}").put("Places")
+    for place, (_, name, file, line) in enumerate(rows):
+        page.say(" " if place else "")
+        put_place(page, name, file, line)
+    page.put("KeyEnd")
+
+
+def put_keys(page, files):
+    keys = keys_of(files)
+    page.put("Keys").say(f"{len(keys)} different keys, on {sum(len(rows) for _, rows in keys)} lines. Those in most files come first.").put("ParagraphEnd")
+    for key, rows in keys:
+        put_key_of(page, key, rows)
+    page.put("MendEnd")
+
+
 def put_front(page, objects, total, files):
     """All that comes before the lines of the first file."""
     found = collections.Counter(one["code"] for made in objects if made["what"] != "end" for one in made["findings"])
@@ -530,6 +573,7 @@ def put_front(page, objects, total, files):
     put_tiles(page, total, today)
     put_asked(page, total, looked_for)
     put_mend(page, total, found, looked_for, places_of(files))
+    put_keys(page, files)
 
 
 # ---- the page

@@ -9,12 +9,14 @@ use Rattle.ssh_page.specs.declared.mend.CodeCount.{CodeCount}
 use Rattle.ssh_page.specs.declared.piece.Piece.TheVariants as piece
 use Rattle.ssh_page.specs.Documents.{Document, put, say, after, ◌&◌}
 use Rattle.ssh_page.specs.Files.{ClassesSeen, FileSeen, count_cells, counts_part, empty_section, fault_row, fault_section, fault_words, file_link, file_row, register, register_end, section, section_classes, section_head, section_name, table_piece}
+use Rattle.ssh_page.specs.KeyLists.{keys}
 use Rattle.ssh_page.specs.Mending.{mend}
 use Rattle.ssh_page.specs.Pages.{header, page_lines, page_end, page_start, whole_page}
 use Rattle.ssh_page.specs.Questions.{QuestionSeen}
 use Rattle.ssh_page.specs.Tags.{within, valued}
 use Rattle.ssh_page.specs.Classes.{class_of}
 use Rattle.ssh_page.proofs.HeaderLemmas.{asked_leads, tiles_stay, verdict_stays}
+use Rattle.ssh_page.proofs.KeyLemmas.{keys_stay}
 use Rattle.ssh_page.proofs.MendLemmas.{mend_stays}
 use Rattle.ssh_page.proofs.PlaceLemmas.{Leads, here, next, all_stay, may_stay}
 use Rattle.ssh_page.proofs.RowLemmas.{class_stays}
@@ -140,5 +142,6 @@ page_closes title q t found names files rows total h k =
     let lines : Open = codes "div" ∷ codes "section" ∷ sections in
     let middle : Leads (within lines) files (within lines) = record { by = h lines } in
     let head : Leads (within []) (page_start title & header q t) (within sections) = next (start_leads title) (header_leads q t) in
-    let front : Leads (within []) (page_start title & header q t & mend q t found (page_lines names files)) (within sections) = next head (mend_stays sections q t found (page_lines names files)) in
+    let seen = page_lines names files in
+    let front : Leads (within []) (page_start title & header q t & mend q t found seen & keys seen) (within sections) = next (next head (mend_stays sections q t found seen)) (keys_stay sections seen) in
     next (next (next (next (next front (here (within sections) (put piece.Lines))) middle) (here (within lines) (put piece.LinesEnd))) (register_stays sections rows total k)) page_end_leads

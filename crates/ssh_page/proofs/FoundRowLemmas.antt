@@ -40,7 +40,7 @@ use Rattle.ssh_page.specs.declared.piece.Piece.{Piece}
 use Rattle.ssh_page.specs.declared.piece.Piece.TheVariants as piece
 use Rattle.ssh_page.specs.declared.record.RowPlace.{RowPlace}
 use Rattle.ssh_page.specs.Classes.{class_of, class_piece, code_number}
-use Rattle.ssh_page.specs.Documents.{Document, IsOfBytes, nothing, put, say, tell, count, each, marks, ◌&◌}
+use Rattle.ssh_page.specs.Documents.{Document, IsOfBytes, nothing, put, say, tell, copied, count, each, marks, ◌&◌}
 use Rattle.ssh_page.specs.Files.{ClassesSeen, FileSeen, counts_part, empty_section, fault_section, fault_words, section, section_classes, section_end, section_head, section_name, table_piece}
 use Rattle.ssh_page.specs.Findings.{detail, finding_head, finding_part, has_bytes, has_value, line_link, link, names_a_line, value_detail, value_link, value_sentence}
 use Rattle.ssh_page.specs.FoundRows.{AreNumbers, HasPlaces, after_class, found_place, has_finding, no_row, places_in, places_read, row_start, with_digit, with_number}
@@ -91,7 +91,7 @@ one-digit m l =
     let same : 0 * 10 + ((48 + m) - 48) ≡ m = omega arith in
     digit-within 0 (48 + m) (omega (arith, l)) ∙ same
 
-number-read : (n : ℕ) → n < 2 ^ 64 → read-digits (decimal n) ≡ n
+pub number-read : (n : ℕ) → n < 2 ^ 64 → read-digits (decimal n) ≡ n
 number-read n small =
     decimal_by_steps (λ m ds. m < 2 ^ 64 → read-digits ds ≡ m) (λ m l less. one-digit m l) (λ m ds l h less. last-digit m ds less (h (omega (arith, less)))) n small small
 
@@ -232,7 +232,7 @@ classes_read row c (f ∷ found) has number =
 
 -- ---- outside of a row's numbers
 
-no-row : (b : ℕ) → is_printable b ≡ true → (b == mark piece.Row) ≡ false
+pub no-row : (b : ℕ) → is_printable b ≡ true → (b == mark piece.Row) ≡ false
 unfolding mark
 no-row b h = let few = ltb-true b 127 (and_parts (nat_le 32 b) (nat_lt b 127) h).1 in ne_eqb b 130 (λ e. omega (arith, few, e))
 
@@ -243,46 +243,51 @@ outside-text c (b ∷ text) rest h =
     ap (λ is. places_read c (cond is row_start no_row) (text ++ rest)) (no-row b both.0) ∙ outside-text c text rest both.1
 
 -- no row begins in it
-abbrev Rowless : Document → Type 0
+abbrev pub Rowless : Document → Type 0
 Rowless nothing = Unit {0}
 Rowless (put p) = (mark p == mark piece.Row) ≡ false
 Rowless (say text) = Unit {0}
 Rowless (tell text) = Unit {0}
+Rowless (copied text) = Unit {0}
 Rowless (count n) = Unit {0}
 Rowless (a & b) = Rowless a × Rowless b
 
-outside-piece : (c : Code) (p : Piece) → (mark p == mark piece.Row) ≡ false → (rest : List ℕ) → places_in c (mark p ∷ rest) ≡ places_in c rest
+pub outside-piece : (c : Code) (p : Piece) → (mark p == mark piece.Row) ≡ false → (rest : List ℕ) → places_in c (mark p ∷ rest) ≡ places_in c rest
 outside-piece c p h rest = ap (λ is. places_read c (cond is row_start no_row) rest) h
 
-code-is-none : (mark piece.Code == mark piece.Row) ≡ false
+pub code-is-none : (mark piece.Code == mark piece.Row) ≡ false
 unfolding mark
 code-is-none = refl
 
-code-end-is-none : (mark piece.CodeEnd == mark piece.Row) ≡ false
+pub code-end-is-none : (mark piece.CodeEnd == mark piece.Row) ≡ false
 unfolding mark
 code-end-is-none = refl
+
+outside-copied : (c : Code) (text : List ℕ) → are_printable text ≡ true → (rest : List ℕ) → places_in c (marks (copied text) ++ rest) ≡ places_in c rest
+outside-copied c text are rest =
+    outside-piece c piece.Code code-is-none ((text ++ mark piece.CodeEnd ∷ []) ++ rest)
+    ∙ ap (places_in c) (append_assoc text (mark piece.CodeEnd ∷ []) rest)
+    ∙ outside-text c text (mark piece.CodeEnd ∷ rest) are
+    ∙ outside-piece c piece.CodeEnd code-end-is-none rest
 
 outside : (c : Code) (d : Document) → IsOfBytes d → Rowless d → (rest : List ℕ) → places_in c (marks d ++ rest) ≡ places_in c rest
 outside c nothing are h rest = refl
 outside c (put p) are h rest = outside-piece c p h rest
 outside c (say text) are h rest = outside-text c (escaped_text text) rest (escaped-printable text are)
-outside c (tell text) are h rest =
-    outside-piece c piece.Code code-is-none ((escaped_text text ++ mark piece.CodeEnd ∷ []) ++ rest)
-    ∙ ap (places_in c) (append_assoc (escaped_text text) (mark piece.CodeEnd ∷ []) rest)
-    ∙ outside-text c (escaped_text text) (mark piece.CodeEnd ∷ rest) (escaped-printable text are)
-    ∙ outside-piece c piece.CodeEnd code-end-is-none rest
+outside c (tell text) are h rest = outside-copied c (escaped_text text) (escaped-printable text are) rest
+outside c (copied text) are h rest = outside-copied c text are rest
 outside c (count n) are h rest = outside-text c (decimal n) rest (decimal-printable n)
 outside c (a & b) are h rest =
     ap (places_in c) (append_assoc (marks a) (marks b) rest) ∙ outside c a are.0 h.0 (marks b ++ rest) ∙ outside c b are.1 h.1 rest
 
 -- The same as a record, so that a proof finds the part.
-record NoRow (d : Document) : Type 0 where
-  by : Rowless d
+pub record NoRow (d : Document) : Type 0 where
+  pub by : Rowless d
 
-also : {a b : Document} → NoRow a → NoRow b → NoRow (a & b)
+pub also : {a b : Document} → NoRow a → NoRow b → NoRow (a & b)
 also h k = record { by = (h.by, k.by) }
 
-said : (text : List ℕ) → NoRow (say text)
+pub said : (text : List ℕ) → NoRow (say text)
 said text = record { by = tt }
 
 passes : (c : Code) (d : Document) → IsOfBytes d → NoRow d → Reads c no_row d [] no_row
@@ -292,10 +297,10 @@ each-none : {A : Type 0} (part : A → Document) → ((x : A) → NoRow (part x)
 each-none part h [] = tt
 each-none part h (x ∷ xs) = ((h x).by, each-none part h xs)
 
-each_none : {A : Type 0} (part : A → Document) → ((x : A) → NoRow (part x)) → (xs : List A) → NoRow (each part xs)
+pub each_none : {A : Type 0} (part : A → Document) → ((x : A) → NoRow (part x)) → (xs : List A) → NoRow (each part xs)
 each_none part h xs = record { by = each-none part h xs }
 
-if_none : (holds : Bool) (p : Piece) → NoRow (put p) → NoRow (put_if holds p)
+pub if_none : (holds : Bool) (p : Piece) → NoRow (put p) → NoRow (put_if holds p)
 if_none true p h = h
 if_none false p h = record { by = tt }
 
@@ -321,7 +326,7 @@ row-number-read c false number file rest = refl
 row_number_read : (c : Code) (has : Bool) (number file : ℕ) → Reads c (at Line number has file) (put piece.RowNumber) (if-so has (record { file = file; line = number })) no_row
 row_number_read c has number file = record { by = row-number-read c has number file }
 
-key_cell_none : NoRow (put piece.KeyCell)
+pub key_cell_none : NoRow (put piece.KeyCell)
 unfolding mark
 key_cell_none = record { by = refl }
 
@@ -402,7 +407,7 @@ class_piece_none urgencies.Soon = record { by = refl }
 class_piece_none urgencies.TidyUp = record { by = refl }
 class_piece_none urgencies.Policy = record { by = refl }
 
-class_none : (d : Code) → NoRow (class_of d)
+pub class_none : (d : Code) → NoRow (class_of d)
 unfolding class_of
 class_none d = also (class_piece_none (how_soon d)) (record { by = tt })
 
@@ -470,7 +475,7 @@ unfolding finding_part
 finding_none file r =
     also (also (also (also (also (head_none r) (said r.before)) (value_sentence_none r.value)) (said r.after)) (link_none file r)) limit_end_none
 
-findings_none : {F : Type 0} (place : RowPlace) (row : F → FindingRow) (found : List F) → NoRow (row_findings place row found)
+pub findings_none : {F : Type 0} (place : RowPlace) (row : F → FindingRow) (found : List F) → NoRow (row_findings place row found)
 findings_none place row found = each_none (λ f. finding_part place.file (row f)) (λ f. finding_none place.file (row f)) found
 
 comment_none : (text : List ℕ) → NoRow (comment_part text)
@@ -498,15 +503,15 @@ key_none : (kind : KeyKind) (bits : Option ℕ) (fingerprint : List ℕ) → NoR
 unfolding key_part
 key_none kind bits fingerprint = also (also (also (also type_none (said (key_name_of kind))) (bits_none bits)) type_end_none) (fingerprint_none fingerprint)
 
-held_none : (held : Option HeldKey) → NoRow (held_part held)
+pub held_none : (held : Option HeldKey) → NoRow (held_part held)
 held_none None = record { by = tt }
 held_none (Some held) = key_none held.kind held.bits held.fingerprint
 
-setting_none : (word : List ℕ) (value : Option (List ℕ)) → NoRow (setting_part word value)
+pub setting_none : (word : List ℕ) (value : Option (List ℕ)) → NoRow (setting_part word value)
 setting_none word None = record { by = tt }
 setting_none word (Some text) = also (also (also limit_none (said word)) (record { by = tt })) limit_end_none
 
-flag_none : (stands : Bool) (words : List ℕ) → NoRow (flag_part stands words)
+pub flag_none : (stands : Bool) (words : List ℕ) → NoRow (flag_part stands words)
 flag_none true words = also (also limit_none (said words)) limit_end_none
 flag_none false words = record { by = tt }
 
@@ -525,7 +530,7 @@ unfolding mark
 rights-by true r = record { by = refl }
 rights-by false r = right_marks_none r
 
-rights_none : (r : Rights) → NoRow (rights_part r)
+pub rights_none : (r : Rights) → NoRow (rights_part r)
 rights_none r = rights-by (has_no_right r) r
 
 carried_none : (x : Carried) → NoRow (carried_part x)
@@ -553,36 +558,36 @@ no_limit_none : NoRow (put piece.NoLimit)
 unfolding mark
 no_limit_none = record { by = refl }
 
-all_limits_none : (f : Facts) → NoRow (all_limits f)
+pub all_limits_none : (f : Facts) → NoRow (all_limits f)
 unfolding all_limits
 all_limits_none f =
     also (also (also (flag_none f.is_authority (codes "authority: whoever it certifies")) (command_none f.rights)) (limits_none f)) (if_none (is_free f) piece.NoLimit no_limit_none)
 
-rights_cell_none : NoRow (put piece.RightsCell)
+pub rights_cell_none : NoRow (put piece.RightsCell)
 unfolding mark
 rights_cell_none = record { by = refl }
 
-limits_cell_none : NoRow (put piece.LimitsCell)
+pub limits_cell_none : NoRow (put piece.LimitsCell)
 unfolding mark
 limits_cell_none = record { by = refl }
 
-unknown_none : NoRow (put piece.RightsUnknown)
+pub unknown_none : NoRow (put piece.RightsUnknown)
 unfolding mark
 unknown_none = record { by = refl }
 
-row_end_none : NoRow (put piece.RowEnd)
+pub row_end_none : NoRow (put piece.RowEnd)
 unfolding mark
 row_end_none = record { by = refl }
 
-entry_cells_none : (f : Facts) → NoRow (entry_cells f)
+pub entry_cells_none : (f : Facts) → NoRow (entry_cells f)
 unfolding entry_cells
 entry_cells_none f = also (also (also (comment_none f.comment) (key_none f.kind f.bits f.fingerprint)) rights_cell_none) (rights_none f.rights)
 
-host_cells_none : (f : HostFacts) → NoRow (host_cells f)
+pub host_cells_none : (f : HostFacts) → NoRow (host_cells f)
 unfolding host_cells
 host_cells_none f = also (also (also (comment_none f.comment) (key_none f.kind f.bits f.fingerprint)) rights_cell_none) (said (role f.is_authority))
 
-revoked_cells_none : (fingerprint : List ℕ) → NoRow (revoked_cells fingerprint)
+pub revoked_cells_none : (fingerprint : List ℕ) → NoRow (revoked_cells fingerprint)
 unfolding revoked_cells
 revoked_cells_none fingerprint =
     also (also (also (also (said (codes "revoked")) (fingerprint_none fingerprint)) rights_cell_none) (said (codes "revoked"))) limits_cell_none
@@ -622,15 +627,15 @@ bare_reads c place is held found few (((((((front, words), key), x), same), z), 
 
 -- ---- sections
 
-section_piece_none : NoRow (put piece.Section)
+pub section_piece_none : NoRow (put piece.Section)
 unfolding mark
 section_piece_none = record { by = refl }
 
-section_end_none : NoRow (put piece.SectionEnd)
+pub section_end_none : NoRow (put piece.SectionEnd)
 unfolding mark
 section_end_none = record { by = refl }
 
-table_end_none : NoRow section_end
+pub table_end_none : NoRow section_end
 unfolding mark
 table_end_none = record { by = refl }
 
@@ -652,7 +657,7 @@ unfolding section_classes mark
 section_classes_none x =
     also (also (each_none class_of class_none x.reported) (if_none x.has_unreadable piece.UnreadableClass (record { by = refl }))) (if_none x.has_authority piece.AuthorityClass (record { by = refl }))
 
-head_of_section_none : (file : ℕ) (kind : FileKind) (f : FileSeen) (x : ClassesSeen) → NoRow (section_head file kind f x)
+pub head_of_section_none : (file : ℕ) (kind : FileKind) (f : FileSeen) (x : ClassesSeen) → NoRow (section_head file kind f x)
 unfolding section_head
 head_of_section_none file kind f x =
     also (also (also (also section_piece_none (section_classes_none x)) (name_none file f.name)) (counts_none f)) (table_none kind)
@@ -663,7 +668,7 @@ section_reads c file kind f x rows places ((head, inner), end) h =
     let own : Reads c no_row rows places no_row = record { by = h } in
     last (first (passes c (section_head file kind f x) head (head_of_section_none file kind f x)) own) (passes c section_end tt table_end_none)
 
-empty_none : (file : ℕ) (f : FileSeen) → NoRow (empty_section file f)
+pub empty_none : (file : ℕ) (f : FileSeen) → NoRow (empty_section file f)
 unfolding empty_section
 empty_none file f = also (also (also section_piece_none (name_none file f.name)) (counts_none f)) section_end_none
 
@@ -678,7 +683,7 @@ fault_piece_none : NoRow (put piece.Fault)
 unfolding mark
 fault_piece_none = record { by = refl }
 
-fault_none : (file : ℕ) (name word means : List ℕ) → NoRow (fault_section file name word means)
+pub fault_none : (file : ℕ) (name word means : List ℕ) → NoRow (fault_section file name word means)
 unfolding fault_section
 fault_none file name word means =
     also (also (also (also (also section_piece_none (name_none file name)) fault_piece_none) (fault_words_none word means)) (said (codes ". Nothing else is told of this file."))) section_end_none

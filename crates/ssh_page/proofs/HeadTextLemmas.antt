@@ -31,7 +31,7 @@ many-none true c n one more = refl
 many-none false true n one more = refl
 many-none false false n one more = refl
 
-many_none : (n : ℕ) (one more : List ℕ) → HasTexts (how_many n one more) []
+pub many_none : (n : ℕ) (one more : List ℕ) → HasTexts (how_many n one more) []
 unfolding how_many
 many_none n one more = record { by = many-none (n == 0) (n == 1) n one more }
 
@@ -97,11 +97,11 @@ header_none q t = past (past (verdict_none q t) (tiles_none t)) (asked_none q)
 
 -- ---- what has to be mended
 
-link_has : (names : List (List ℕ)) (p : RowPlace) → HasTexts (place_link names p) (name_at names p.file ∷ [])
+pub link_has : (names : List (List ℕ)) (p : RowPlace) → HasTexts (place_link names p) (name_at names p.file ∷ [])
 unfolding place_link
 link_has names p = record { by = refl }
 
-next_has : (names : List (List ℕ)) (p : RowPlace) → HasTexts (next_link names p) (name_at names p.file ∷ [])
+pub next_has : (names : List (List ℕ)) (p : RowPlace) → HasTexts (next_link names p) (name_at names p.file ∷ [])
 unfolding next_link
 next_has names p = past (say_none (codes " ")) (link_has names p)
 

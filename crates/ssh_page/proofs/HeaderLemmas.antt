@@ -24,7 +24,7 @@ many-by true c opened n one more = refl
 many-by false true opened n one more = refl
 many-by false false opened n one more = refl
 
-many_stay : (opened : Open) (n : ℕ) (one more : List ℕ) → Leads (within opened) (how_many n one more) (within opened)
+pub many_stay : (opened : Open) (n : ℕ) (one more : List ℕ) → Leads (within opened) (how_many n one more) (within opened)
 unfolding how_many
 many_stay opened n one more = record { by = many-by (n == 0) (n == 1) opened n one more }
 

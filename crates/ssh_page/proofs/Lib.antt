@@ -15,4 +15,10 @@ pub mod ShapeLemmas
 pub mod TextLemmas
 pub mod FoundRowLemmas
 pub mod ScanLemmas
+pub mod StableLemmas
+pub mod RunLemmas
+pub mod GroupLemmas
+pub mod KeyRowLemmas
+pub mod KeyLemmas
+pub mod KeyByteLemmas
 pub mod HeadTextLemmas

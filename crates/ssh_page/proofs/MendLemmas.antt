@@ -68,11 +68,11 @@ code_is_text c = IsUtf8-from_ascii (code_text c) (ascii (code_text c) (code-asci
 
 -- ---- codes that were found
 
-link_stays : (opened : Open) (names : List (List ℕ)) (p : RowPlace) → Leads (within opened) (place_link names p) (within opened)
+pub link_stays : (opened : Open) (names : List (List ℕ)) (p : RowPlace) → Leads (within opened) (place_link names p) (within opened)
 unfolding place_link
 link_stays opened names p = record { by = refl }
 
-next_stays : (opened : Open) (names : List (List ℕ)) (p : RowPlace) → Leads (within opened) (next_link names p) (within opened)
+pub next_stays : (opened : Open) (names : List (List ℕ)) (p : RowPlace) → Leads (within opened) (next_link names p) (within opened)
 unfolding next_link
 next_stays opened names p = next (here (within opened) (say (codes " "))) (link_stays opened names p)
 

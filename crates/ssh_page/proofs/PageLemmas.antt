@@ -8,7 +8,7 @@ use Rattle.std.proofs.lemmas.List.{append-nil}
 use Rattle.std.proofs.lemmas.List.Elements.{filter-append}
 use Rattle.ssh_print.specs.Texts.{escaped_text}
 use Rattle.ssh_page.specs.declared.piece.Piece.TheVariants.{CodeEnd}
-use Rattle.ssh_page.specs.Documents.{Document, nothing, put, say, tell, count, ◌&◌, IsOfBytes, html, marks}
+use Rattle.ssh_page.specs.Documents.{Document, nothing, put, say, tell, copied, count, ◌&◌, IsOfBytes, html, marks}
 use Rattle.ssh_page.specs.Expanding.{byte_html, delimiters, is_delimiter, mark_html, page, text_html, without_text}
 use Rattle.ssh_page.specs.Pieces.{all_markup, mark, markup_at}
 use Rattle.ssh_page.specs.Shown.{are_printable, are_shown, is_printable}
@@ -36,15 +36,16 @@ code-ends : page (marks (put CodeEnd)) ≡ codes "</code>"
 unfolding mark markup_at all_markup
 code-ends = refl
 
-reported-html : (text : List ℕ) → are_printable (escaped_text text) ≡ true → page (marks (tell text)) ≡ html (tell text)
+copied-html : (text : List ℕ) → are_printable text ≡ true → page (marks (copied text)) ≡ html (copied text)
 unfolding mark markup_at all_markup
-reported-html text h = ap (λ bytes. codes "<code>" ++ bytes) (reported-page (escaped_text text) h code-ends)
+copied-html text h = ap (λ bytes. codes "<code>" ++ bytes) (reported-page text h code-ends)
 
 pub page-html : (d : Document) → IsOfBytes d → page (marks d) ≡ html d
 page-html nothing h = refl
 page-html (put p) h = append-nil (mark_html (mark p)) ∙ piece-shown p
 page-html (say text) h = text-page (escaped_text text) (escaped-printable text h)
-page-html (tell text) h = reported-html text (escaped-printable text h)
+page-html (tell text) h = copied-html (escaped_text text) (escaped-printable text h)
+page-html (copied text) h = copied-html text h
 page-html (count n) h = text-page (decimal n) (decimal-printable n)
 page-html (a & b) h =
     flat_map-append mark_html (marks a) (marks b) ∙ ap (λ bytes. bytes ++ page (marks b)) (page-html a h.0)

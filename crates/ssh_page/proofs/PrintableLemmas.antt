@@ -6,7 +6,7 @@ use Rattle.std.proofs.lemmas.Bool.{and_from, and_parts, le-leb, lt-ltb, ltb-true
 use Rattle.std.proofs.lemmas.List.Folds.{list_all-append}
 use Rattle.ssh_offers.specs.FirstRefusal.{AreBytes}
 use Rattle.ssh_print.specs.Texts.{escaped_byte, escaped_text, hex_digit, hex_pair, is_plain_byte}
-use Rattle.ssh_page.specs.Documents.{Document, nothing, put, say, tell, count, ◌&◌, IsOfBytes, html}
+use Rattle.ssh_page.specs.Documents.{Document, nothing, put, say, tell, copied, count, ◌&◌, IsOfBytes, html}
 use Rattle.ssh_page.specs.Expanding.{byte_html, text_html}
 use Rattle.ssh_page.specs.Shown.{are_printable, are_shown, is_printable, is_shown}
 use Rattle.ssh_page.proofs.PieceLemmas.{piece-printable}
@@ -106,5 +106,6 @@ html-printable (put p) h = piece-printable p
 html-printable (say text) h = text-shown (escaped_text text) (escaped-printable text h)
 html-printable (tell text) h =
     shown-append (text_html (escaped_text text)) (codes "</code>") (text-shown (escaped_text text) (escaped-printable text h)) refl
+html-printable (copied text) h = shown-append (text_html text) (codes "</code>") (text-shown text h) refl
 html-printable (count n) h = text-shown (decimal n) (decimal-printable n)
 html-printable (a & b) h = shown-append (html a) (html b) (html-printable a h.0) (html-printable b h.1)

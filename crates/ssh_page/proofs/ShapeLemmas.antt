@@ -28,10 +28,10 @@ use Rattle.ssh_page.specs.StandIns.{carried_stand_in, facts_stand_in, host_stand
 pub record SameShape (d e : Document) : Type 0 where
   pub by : pieces_of d ≡ pieces_of e
 
-like : (d : Document) → SameShape d d
+pub like : (d : Document) → SameShape d d
 like d = record { by = refl }
 
-join : {a b d e : Document} → SameShape a d → SameShape b e → SameShape (a & b) (d & e)
+pub join : {a b d e : Document} → SameShape a d → SameShape b e → SameShape (a & b) (d & e)
 join {a} {b} {d} {e} h k = record { by = ap (λ ps. ps ++ pieces_of b) h.by ∙ ap (λ ps. pieces_of d ++ ps) k.by }
 
 -- ---- parts
@@ -124,11 +124,11 @@ revoked_shape place fingerprint names found =
 
 -- ---- what has to be mended
 
-link_shape : (names other : List (List ℕ)) (p : RowPlace) → SameShape (place_link names p) (place_link other p)
+pub link_shape : (names other : List (List ℕ)) (p : RowPlace) → SameShape (place_link names p) (place_link other p)
 unfolding place_link
 link_shape names other p = record { by = refl }
 
-next_shape : (names other : List (List ℕ)) (p : RowPlace) → SameShape (next_link names p) (next_link other p)
+pub next_shape : (names other : List (List ℕ)) (p : RowPlace) → SameShape (next_link names p) (next_link other p)
 unfolding next_link
 next_shape names other p = join (like (say (codes " "))) (link_shape names other p)
 
@@ -137,7 +137,7 @@ each-shape part other h [] = refl
 each-shape part other h (x ∷ xs) =
     ap (λ ps. ps ++ pieces_of (each part xs)) (h x).by ∙ ap (λ ps. pieces_of (other x) ++ ps) (each-shape part other h xs)
 
-each_shape : {A : Type 0} (part other : A → Document) → ((x : A) → SameShape (part x) (other x)) → (xs : List A) → SameShape (each part xs) (each other xs)
+pub each_shape : {A : Type 0} (part other : A → Document) → ((x : A) → SameShape (part x) (other x)) → (xs : List A) → SameShape (each part xs) (each other xs)
 each_shape part other h xs = record { by = each-shape part other h xs }
 
 places_shape : (names other : List (List ℕ)) (ps : List RowPlace) → SameShape (places_part names ps) (places_part other ps)

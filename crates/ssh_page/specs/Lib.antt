@@ -13,6 +13,10 @@ pub mod Questions
 pub mod Headers
 pub mod FoundRows
 pub mod Places
+pub mod KeyRows
+pub mod KeyGroups
+pub mod KeyLists
+pub mod Sorting
 pub mod Mending
 pub mod Pages
 pub mod StandIns

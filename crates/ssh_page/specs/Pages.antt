@@ -6,6 +6,7 @@ use Rattle.ssh_page.specs.declared.piece.Piece.TheVariants as piece
 use Rattle.ssh_page.specs.Documents.{Document, marks, put, say, ◌&◌}
 use Rattle.ssh_page.specs.Files.{register}
 use Rattle.ssh_page.specs.Headers.{asked, tiles, verdict}
+use Rattle.ssh_page.specs.KeyLists.{keys}
 use Rattle.ssh_page.specs.Mending.{mend}
 use Rattle.ssh_page.specs.Places.{LinesSeen}
 use Rattle.ssh_page.specs.Questions.{QuestionSeen}
@@ -38,5 +39,5 @@ page_lines names sections = record { names = names; sections = marks sections }
 -- the register with a row for each file and the total
 abbrev pub whole_page : List ℕ → QuestionSeen → PageTotals → List CodeCount → List (List ℕ) → Document → Document → List ℕ → Document
 whole_page title q t found names sections rows total =
-    page_start title & header q t & mend q t found (page_lines names sections) & lines_start & sections & lines_end
-    & register rows total & page_end
+    page_start title & header q t & mend q t found (page_lines names sections) & keys (page_lines names sections) & lines_start
+    & sections & lines_end & register rows total & page_end

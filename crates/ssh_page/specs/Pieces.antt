@@ -174,6 +174,7 @@ tags piece.HeaderEnd =
     ∷ reads (codes ", comes from the files: whoever can write there wrote it. It is printable ASCII; every other byte, and the backslash, is shown as \\x and two digits.")
     ∷ closes (codes "p") ∷ reads (codes "\n") ∷ opens (codes "nav") (codes " aria-label=\"Parts of this page\"")
     ∷ opens (codes "a") (codes " href=\"#mend\"") ∷ reads (codes "What has to be mended") ∷ closes (codes "a")
+    ∷ reads (codes " ") ∷ opens (codes "a") (codes " href=\"#keys\"") ∷ reads (codes "Keys") ∷ closes (codes "a")
     ∷ reads (codes " ") ∷ opens (codes "a") (codes " href=\"#lines\"") ∷ reads (codes "Every line") ∷ closes (codes "a")
     ∷ reads (codes " ") ∷ opens (codes "a") (codes " href=\"#files\"") ∷ reads (codes "Files") ∷ closes (codes "a")
     ∷ reads (codes " ") ∷ opens (codes "a") (codes " href=\"#sign\"") ∷ reads (codes "Sign") ∷ closes (codes "a")
@@ -229,6 +230,13 @@ tags piece.Absent =
     ∷ closes (codes "p") ∷ reads (codes "\n") ∷ opens (codes "ul") [] ∷ reads (codes "\n") ∷ []
 tags piece.Item = opens (codes "li") [] ∷ []
 tags piece.LeftOut = opens (codes "p") (codes " class=\"says\"") ∷ reads (codes "Not looked for:") ∷ []
+tags piece.Keys =
+    opens (codes "section") (codes " id=\"keys\"") ∷ reads (codes "\n") ∷ opens (codes "h2") []
+    ∷ reads (codes "Where each key stands") ∷ closes (codes "h2") ∷ reads (codes "\n")
+    ∷ opens (codes "p") (codes " class=\"says\"") ∷ []
+tags piece.Key = begins (codes "article") (codes " class=\"key\" id=\"k") ∷ []
+tags piece.KeyPrint = opens (codes "samp") [] ∷ reads (codes "SHA256:") ∷ []
+tags piece.KeyEnd = closes (codes "p") ∷ reads (codes "\n") ∷ closes (codes "article") ∷ reads (codes "\n") ∷ []
 tags piece.Lines =
     opens (codes "section") (codes " id=\"lines\"") ∷ reads (codes "\n") ∷ opens (codes "h2") []
     ∷ reads (codes "Every line, by file") ∷ closes (codes "h2") ∷ reads (codes "\n")

@@ -44,7 +44,7 @@ fn is_mark(byte: u8) -> bool
 }
 
 /// A number with one more digit.
-fn with_digit(number: u64, digit: u8) -> u64
+pub(crate) fn with_digit(number: u64, digit: u8) -> u64
     ensures { result ≡ with_digit number digit }
 {
     number

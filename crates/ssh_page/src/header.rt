@@ -35,7 +35,12 @@ pub struct PageTotals {
 
 /// Appends how many there are, with the words for one or for more, if there is any.
 #[tactic(auto, unfolding(crate::specs::Headers::how_many))]
-fn push_how_many(out: &mut Vec<u8>, number: u64, one: &[u8], more: &[u8]) -> Result<(), AllocError>
+pub(crate) fn push_how_many(
+    out: &mut Vec<u8>,
+    number: u64,
+    one: &[u8],
+    more: &[u8],
+) -> Result<(), AllocError>
     ensures { OnOk result (out.new.items
         ≡ out.old.items ++ marks (how_many number one.now more.now)) }
 {

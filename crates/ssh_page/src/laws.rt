@@ -2,7 +2,8 @@
 
 ghost use Rattle.std.specs.Prelude.{◌≡◌, ◌++◌, ◌∷◌, [], ℕ, true, codes, List, Option};
 ghost use Rattle.std.specs.Fmt.{decimal};
-ghost use Rattle.std.specs.List.{list_all};
+ghost use Rattle.std.specs.List.{AllByRecursion, list_all};
+ghost use Rattle.std.specs.List.Sorted.{IsPermutation};
 ghost use Rattle.ssh_findings.specs.Codes.{code_text};
 ghost use Rattle.ssh_findings.specs.Findings.{auth_row};
 ghost use Rattle.ssh_findings.specs.HostFindingsFindings.{host_row};
@@ -12,6 +13,7 @@ ghost use Rattle.ssh_findings.specs.declared.finding.Finding.{Finding};
 ghost use Rattle.ssh_findings.specs.declared.host_facts.HostFacts.{HostFacts};
 ghost use Rattle.ssh_findings.specs.declared.host_finding.HostFinding.{HostFinding};
 ghost use Rattle.ssh_findings.specs.declared.recovered_key.HeldKey.{HeldKey};
+ghost use Rattle.ssh_offers.specs.FirstRefusal.{AreBytes};
 ghost use Rattle.ssh_page.specs.declared.file.FileKind.{FileKind};
 ghost use Rattle.ssh_page.specs.declared.file.FileKind.TheVariants.{AuthorizedKeys, KnownHosts};
 ghost use Rattle.ssh_page.specs.declared.header.PageTotals.{PageTotals};
@@ -23,6 +25,9 @@ ghost use Rattle.ssh_page.specs.Expanding.{delimiters, page, text_html, without_
 ghost use Rattle.ssh_page.specs.Files.{ClassesSeen, FileSeen, empty_section, fault_row, fault_section, file_row, register, section};
 ghost use Rattle.ssh_page.specs.FoundRows.{AreNumbers, HasPlaces, found_place};
 ghost use Rattle.ssh_page.specs.HostRecords.{bare_row, host_entry_row, revoked_row};
+ghost use Rattle.ssh_page.specs.KeyGroups.{AreOfOneKey, KeyGroupSeen, by_key, groups_in, listed};
+ghost use Rattle.ssh_page.specs.KeyLists.{keys, keys_texts};
+ghost use Rattle.ssh_page.specs.KeyRows.{HasKeyRows, IsHeldPrint, IsPrint, KeyRowSeen, held_rows, row_of};
 ghost use Rattle.ssh_page.specs.Mending.{mend, mend_names};
 ghost use Rattle.ssh_page.specs.Pages.{header, whole_page};
 ghost use Rattle.ssh_page.specs.Pieces.{tags};
@@ -113,7 +118,7 @@ fn page_closes_rule()
 
 /// Whoever writes the texts of a file cannot choose a tag: with one letter in place of each text, a
 /// row has the same pieces in the same order. Only whether a comment has bytes is seen. With other
-/// names of files, what has to be mended has the same pieces.
+/// names of files, what has to be mended has the same pieces, and so has the list of keys.
 fn shape_rule()
     ensures entry { (place : RowPlace) (f : Facts) (found : List Finding)
         → pieces_of (entry_row place f found) ≡ pieces_of (entry_row place (facts_stand_in f) found) }
@@ -126,11 +131,14 @@ fn shape_rule()
     ensures mend { (q : QuestionSeen) (t : PageTotals) (found : List CodeCount) (l : LinesSeen)
         (names : List (List ℕ))
         → pieces_of (mend q t found l) ≡ pieces_of (mend q t found (renamed names l)) }
+    ensures keys { (l : LinesSeen) (names : List (List ℕ))
+        → pieces_of (keys l) ≡ pieces_of (keys (renamed names l)) }
 {}
 
 /// Each text of a line stands in its row once, between `<code>` and `</code>`, in the order of the
 /// text format, and nothing else stands so. No text of a file stands in the header. In what has to be
-/// mended the names of files stand so, one for each line that is listed, and nothing else does.
+/// mended the names of files stand so, one for each line that is listed, and nothing else does. In the
+/// list of keys the comment of the first line of a key does too, as it stands in its row.
 fn texts_rule()
     ensures entry { (place : RowPlace) (f : Facts) (found : List Finding)
         → texts_of (entry_row place f found) ≡ entry_texts f }
@@ -145,6 +153,7 @@ fn texts_rule()
     ensures header { (q : QuestionSeen) (t : PageTotals) → texts_of (header q t) ≡ [] }
     ensures mend { (q : QuestionSeen) (t : PageTotals) (found : List CodeCount) (l : LinesSeen)
         → texts_of (mend q t found l) ≡ mend_names l found }
+    ensures keys { (l : LinesSeen) → texts_of (keys l) ≡ keys_texts l }
 {}
 
 /// Each row with a finding of a code is one place of the code, with the numbers of its file and of its
@@ -179,4 +188,43 @@ fn places_rule()
         → HasPlaces c (fault_section file name code means) [] }
     ensures both { (c : Code) (a b : Document) (first second : List RowPlace)
         → HasPlaces c a first → HasPlaces c b second → HasPlaces c (a & b) (first ++ second) }
+{}
+
+/// Each line with a key is one row of those that the list of keys is made of, with the numbers of its
+/// file and of itself, its comment and its key, and nothing else in a section is one. Each of these rows
+/// is in the list exactly once, with all others of its key and in their order. Whatever stands in the
+/// sections, what the list copies from them is printable.
+fn keys_rule()
+    ensures entry { (place : RowPlace) (f : Facts) (found : List Finding)
+        → AreNumbers place → IsPrint f.fingerprint → IsOfBytes (entry_row place f found)
+        → HasKeyRows (entry_row place f found) (row_of place f.comment f.fingerprint ∷ []) }
+    ensures unreadable { (place : RowPlace) (held : Option HeldKey) (found : List Finding)
+        → AreNumbers place → IsHeldPrint held → IsOfBytes (unreadable_row place held found)
+        → HasKeyRows (unreadable_row place held found) (held_rows place held) }
+    ensures host_entry { (place : RowPlace) (f : HostFacts) (found : List HostFinding)
+        → AreNumbers place → IsPrint f.fingerprint → IsOfBytes (host_entry_row place f found)
+        → HasKeyRows (host_entry_row place f found) (row_of place f.comment f.fingerprint ∷ []) }
+    ensures revoked { (place : RowPlace) (print names : List ℕ) (found : List HostFinding)
+        → AreNumbers place → IsPrint print → IsOfBytes (revoked_row place print names found)
+        → HasKeyRows (revoked_row place print names found) (row_of place [] print ∷ []) }
+    ensures bare { (place : RowPlace) (is : List ℕ) (held : Option HeldKey)
+        (found : List HostFinding)
+        → AreNumbers place → IsHeldPrint held → IsOfBytes (bare_row place is held found)
+        → HasKeyRows (bare_row place is held found) (held_rows place held) }
+    ensures whole { (file : ℕ) (kind : FileKind) (f : FileSeen) (classes : ClassesSeen)
+        (rows : Document) (found : List KeyRowSeen)
+        → IsOfBytes (section file kind f classes rows) → HasKeyRows rows found
+        → HasKeyRows (section file kind f classes rows) found }
+    ensures empty { (file : ℕ) (f : FileSeen)
+        → IsOfBytes (empty_section file f) → HasKeyRows (empty_section file f) [] }
+    ensures fault { (file : ℕ) (name code means : List ℕ)
+        → IsOfBytes (fault_section file name code means)
+        → HasKeyRows (fault_section file name code means) [] }
+    ensures both { (a b : Document) (first second : List KeyRowSeen)
+        → HasKeyRows a first → HasKeyRows b second → HasKeyRows (a & b) (first ++ second) }
+    ensures once { (rows : List KeyRowSeen)
+        → IsPermutation rows (listed (groups_in (by_key rows))) }
+    ensures together { (rows : List KeyRowSeen)
+        → AllByRecursion (λ (g : KeyGroupSeen). AreOfOneKey rows g.rows) (groups_in (by_key rows)) }
+    ensures bytes { (l : LinesSeen) → AllByRecursion AreBytes l.names → IsOfBytes (keys l) }
 {}

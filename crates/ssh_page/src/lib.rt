@@ -23,6 +23,9 @@ mod finding;
 mod found_rows;
 mod header;
 mod host_record;
+mod key_groups;
+mod key_rows;
+mod keys;
 mod laws;
 mod marks;
 mod mend;
@@ -41,6 +44,7 @@ pub use file::{
 };
 pub use header::{PageTotals, push_asked, push_tiles, push_verdict};
 pub use host_record::{push_bare_row, push_host_entry_row, push_revoked_row};
+pub use keys::push_keys;
 pub use mend::{CodeCount, push_mend};
 pub use page::{push_lines_end, push_lines_start, push_page_end, push_page_start};
 pub use places::PageLines;

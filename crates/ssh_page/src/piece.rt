@@ -121,6 +121,11 @@ pub(crate) enum Piece {
     Absent,
     Item,
     LeftOut,
+    // Where each key stands: for each key its name on the page, its fingerprint, and its lines.
+    Keys,
+    Key,
+    KeyPrint,
+    KeyEnd,
     // The lines of all files, around their sections.
     Lines,
     LinesEnd,
@@ -129,7 +134,7 @@ pub(crate) enum Piece {
 }
 
 /// The HTML of each piece.
-static MARKUP: [&str; 100] = [
+static MARKUP: [&str; 104] = [
     "<code>",
     "</code>",
     "<tr class=\"ln",
@@ -205,7 +210,7 @@ static MARKUP: [&str; 100] = [
     "<dt>",
     "</dt><dd>",
     "</dd>\n",
-    "</dl>\n<p class=\"says\">Text on a tinted ground, <code>like this</code>, comes from the files: whoever can write there wrote it. It is printable ASCII; every other byte, and the backslash, is shown as \\x and two digits.</p>\n<nav aria-label=\"Parts of this page\"><a href=\"#mend\">What has to be mended</a> <a href=\"#lines\">Every line</a> <a href=\"#files\">Files</a> <a href=\"#sign\">Sign</a></nav>\n</header>\n<main>\n",
+    "</dl>\n<p class=\"says\">Text on a tinted ground, <code>like this</code>, comes from the files: whoever can write there wrote it. It is printable ASCII; every other byte, and the backslash, is shown as \\x and two digits.</p>\n<nav aria-label=\"Parts of this page\"><a href=\"#mend\">What has to be mended</a> <a href=\"#keys\">Keys</a> <a href=\"#lines\">Every line</a> <a href=\"#files\">Files</a> <a href=\"#sign\">Sign</a></nav>\n</header>\n<main>\n",
     "<section id=\"mend\">\n<h2>What has to be mended</h2>\n",
     "<h3 class=\"a\"><span class=\"dot\" aria-hidden=\"true\"></span>Today</h3>\n<p class=\"says\">A line does other than it seems to do, or nobody can say what it does.</p>\n<dl class=\"codes\">\n",
     "<h3 class=\"b\"><span class=\"dot\" aria-hidden=\"true\"></span>Soon</h3>\n<p class=\"says\">A weak key, a way around a limit, or two lines for one key.</p>\n<dl class=\"codes\">\n",
@@ -227,6 +232,10 @@ static MARKUP: [&str; 100] = [
     "<p class=\"says\">Looked for in every line, and not found:</p>\n<ul>\n",
     "<li>",
     "<p class=\"says\">Not looked for:",
+    "<section id=\"keys\">\n<h2>Where each key stands</h2>\n<p class=\"says\">",
+    "<article class=\"key\" id=\"k",
+    "<samp>SHA256:",
+    "</p>\n</article>\n",
     "<section id=\"lines\">\n<h2>Every line, by file</h2>\n<div class=\"all\">\n",
     "</div>\n</section>\n",
     "</main>\n<footer><p>Written by ssh_audit review --form html. No script, nothing from outside, no link out.</p></footer>\n</body>\n</html>\n",

@@ -35,7 +35,11 @@ fn name_at(names: &[Bytes], number: u64) -> &[u8]
 
 /// Appends a link to the row of a line: the name of its file, and its number.
 #[tactic(auto, unfolding(crate::specs::Places::place_link))]
-fn push_place_link(out: &mut Vec<u8>, names: &[Bytes], place: RowPlace) -> Result<(), AllocError>
+pub(crate) fn push_place_link(
+    out: &mut Vec<u8>,
+    names: &[Bytes],
+    place: RowPlace,
+) -> Result<(), AllocError>
     ensures { OnOk result (out.new.items ≡ out.old.items ++ marks (place_link names.now place)) }
 {
     push_piece(out, Piece::PlaceFile)?;
@@ -52,7 +56,11 @@ fn push_place_link(out: &mut Vec<u8>, names: &[Bytes], place: RowPlace) -> Resul
 
 /// Appends the same after a space.
 #[tactic(auto, unfolding(crate::specs::Places::next_link))]
-fn push_next_link(out: &mut Vec<u8>, names: &[Bytes], place: RowPlace) -> Result<(), AllocError>
+pub(crate) fn push_next_link(
+    out: &mut Vec<u8>,
+    names: &[Bytes],
+    place: RowPlace,
+) -> Result<(), AllocError>
     ensures { OnOk result (out.new.items ≡ out.old.items ++ marks (next_link names.now place)) }
 {
     push_shown(out, b" ")?;

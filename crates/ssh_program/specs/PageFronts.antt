@@ -1,5 +1,5 @@
--- What stands before the sections of a page: its header, and what has to be mended, by the total of all files (this project's
--- rule).
+-- What stands before the sections of a page: its header, what has to be mended, and where each key stands, by the total of all
+-- files and by their sections (this project's rule).
 use Rattle.std.specs.Prelude.{◌++◌, ℕ, nat_lt, Bool, List, filter, map, if◌then◌else◌}
 use Rattle.std.specs.List.{fold}
 use Rattle.ssh_findings.specs.Asking.{Asking}
@@ -10,6 +10,7 @@ use Rattle.ssh_findings.specs.declared.code.Code.{Code}
 use Rattle.ssh_findings.specs.declared.code_counts.CodeCounts.{CodeCounts}
 use Rattle.ssh_findings.specs.declared.urgency.Urgency.TheVariants.{Today}
 use Rattle.ssh_page.specs.Documents.{marks}
+use Rattle.ssh_page.specs.KeyLists.{keys}
 use Rattle.ssh_page.specs.Mending.{mend}
 use Rattle.ssh_page.specs.Places.{LinesSeen}
 use Rattle.ssh_page.specs.Pages.{header, lines_start, page_start}
@@ -68,9 +69,10 @@ page_totals total found = record {
 
 -- ---- the marked text
 
--- before the first section: the title, the header, and what has to be mended
+-- before the first section: the title, the header, what has to be mended, and where each key stands
 abbrev pub page_front : List ℕ → QuestionSeen → PageTotals → List CodeCount → LinesSeen → List ℕ
-page_front title q t found l = marks (page_start title) ++ marks (header q t) ++ marks (mend q t found l) ++ marks lines_start
+page_front title q t found l =
+    marks (page_start title) ++ marks (header q t) ++ marks (mend q t found l) ++ marks (keys l) ++ marks lines_start
 
 -- by the lines and the total of all files
 abbrev pub front_of : List ℕ → FileKind → List ℕ → Asking → LinesSeen → Total → List ℕ

@@ -1,5 +1,5 @@
-//! What stands before the sections of a page: its header, and what has to be mended, by the total of
-//! all files and by their sections.
+//! What stands before the sections of a page: its header, what has to be mended, and where each key
+//! stands, by the total of all files and by their sections.
 
 ghost use Rattle.std.specs.Prelude.{◌≡◌, ◌++◌, IfOk, OnOk};
 ghost use Rattle.ssh_findings.specs.Asking.{asking_of};
@@ -11,8 +11,8 @@ ghost use Rattle.ssh_program.specs.PageFronts.{count_of, found_among, front_of, 
 
 use ssh_findings::{Code, CodeCounts, ReviewOptions, Urgency, how_soon};
 use ssh_page::{
-    CodeCount, FileKind, PageLines, PageQuestion, PageTotals, push_asked, push_lines_start,
-    push_mend, push_page_start, push_tiles, push_verdict,
+    CodeCount, FileKind, PageLines, PageQuestion, PageTotals, push_asked, push_keys,
+    push_lines_start, push_mend, push_page_start, push_tiles, push_verdict,
 };
 use ssh_review::Total;
 use std::alloc::{AllocError, Global};
@@ -116,7 +116,7 @@ fn push_header(
     Ok(())
 }
 
-/// The title, the header, and what has to be mended.
+/// The title, the header, what has to be mended, and where each key stands.
 fn page_front(
     alloc: Global,
     title: &str,
@@ -132,6 +132,7 @@ fn page_front(
     push_page_start(&mut front, title.as_bytes())?;
     push_header(alloc, &mut front, question, totals)?;
     push_mend(alloc, &mut front, question, totals, found, lines)?;
+    push_keys(alloc, &mut front, lines)?;
     push_lines_start(&mut front)?;
     Ok(front)
 }

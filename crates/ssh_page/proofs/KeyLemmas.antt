@@ -1,0 +1,124 @@
+-- Where each key stands: it closes what it opens, and has these texts; its pieces hang on no name of a file.
+use Rattle.std.proofs.Common.{◌≡◌, ◌∙◌, ℕ, List, [], ◌∷◌, ◌++◌, length, map, refl, ap, append_assoc}
+use Rattle.std.specs.Prelude.{codes}
+use Rattle.std.specs.List.{flat_map}
+use Rattle.ssh_page.specs.declared.piece.Piece.TheVariants as piece
+use Rattle.ssh_page.specs.Documents.{Document, nothing, put, say, count, each, texts_of, ◌&◌}
+use Rattle.ssh_page.specs.KeyGroups.{KeyGroupSeen, by_key, groups_in}
+use Rattle.ssh_page.specs.KeyLists.{file_name, key_by, key_counts, key_head, key_list, key_part, key_texts, keys, keys_texts, list_head, name_part, row_link}
+use Rattle.ssh_page.specs.KeyRows.{KeyRowSeen, rows_in}
+use Rattle.ssh_page.specs.Places.{LinesSeen, place_link, renamed}
+use Rattle.ssh_page.specs.StandIns.{if_bytes}
+use Rattle.ssh_page.specs.Tags.{within}
+use Rattle.ssh_page.proofs.HeaderLemmas.{many_stay}
+use Rattle.ssh_page.proofs.HeadTextLemmas.{link_has, many_none, next_has}
+use Rattle.ssh_page.proofs.MendLemmas.{link_stays, next_stays}
+use Rattle.ssh_page.proofs.PlaceLemmas.{Leads, all_stay, here, next}
+use Rattle.ssh_page.proofs.ShapeLemmas.{SameShape, each_shape, join, like, link_shape, next_shape}
+use Rattle.ssh_page.proofs.TextLemmas.{HasTexts, has, past, piece_none, say_none, upto}
+
+abbrev Open : Type 0
+Open = List (List ℕ)
+
+-- ---- elements
+
+name_stays : (opened : Open) (name : List ℕ) → Leads (within opened) (name_part name) (within opened)
+name_stays opened [] = record { by = refl }
+name_stays opened (c ∷ cs) = record { by = refl }
+
+-- the paragraph of a key is open behind it
+head_leads : (opened : Open) (r : KeyRowSeen) → Leads (within opened) (key_head r) (within (codes "p" ∷ codes "article" ∷ opened))
+unfolding key_head
+head_leads opened r =
+    let heading = codes "h3" ∷ codes "article" ∷ opened in
+    let p = codes "p" ∷ codes "article" ∷ opened in
+    let numbers : Leads (within opened) (put piece.Key & count r.place.file & put piece.LineId & count r.place.line & put piece.SectionName) (within heading) = record { by = refl } in
+    let says = next (next numbers (name_stays heading r.name)) (here (within heading) (put piece.SectionSays)) in
+    next (next (next says (here (within p) (put piece.KeyPrint))) (here (within (codes "samp" ∷ p)) (say r.key))) (here (within (codes "samp" ∷ p)) (put piece.FingerprintEnd))
+
+counts_stay : (opened : Open) (files lines : ℕ) → Leads (within opened) (key_counts files lines) (within opened)
+unfolding key_counts
+counts_stay opened files lines =
+    next (next (next (here (within opened) (say (codes " in "))) (many_stay opened files (codes " file") (codes " files"))) (here (within opened) (say (codes ", on ")))) (many_stay opened lines (codes " line") (codes " lines"))
+
+rows_stay : (opened : Open) (names : List (List ℕ)) (rows : List KeyRowSeen) → Leads (within opened) (each (row_link names) rows) (within opened)
+rows_stay opened names rows = all_stay (within opened) (row_link names) (λ (r : KeyRowSeen). next_stays opened names r.place) rows
+
+key_stays : (opened : Open) (names : List (List ℕ)) (files : ℕ) (rows : List KeyRowSeen) → Leads (within opened) (key_by names files rows) (within opened)
+key_stays opened names files [] = record { by = refl }
+key_stays opened names files (r ∷ rows) =
+    let p = codes "p" ∷ codes "article" ∷ opened in
+    let told = next (next (head_leads opened r) (counts_stay p files (length (r ∷ rows)))) (here (within p) (put piece.Places)) in
+    next (next (next told (link_stays p names r.place)) (rows_stay p names rows)) (here (within p) (put piece.KeyEnd))
+
+list_stays : (opened : Open) (names : List (List ℕ)) (lines : ℕ) (groups : List KeyGroupSeen) → Leads (within opened) (key_list names lines groups) (within opened)
+unfolding key_list list_head
+list_stays opened names lines groups =
+    let section = codes "section" ∷ opened in
+    let words : Leads (within opened) (list_head (length groups) lines) (within section) = record { by = refl } in
+    next (next words (all_stay (within section) (key_part names) (λ (g : KeyGroupSeen). key_stays section names g.files g.rows) groups)) (here (within section) (put piece.MendEnd))
+
+pub keys_stay : (opened : Open) (l : LinesSeen) → Leads (within opened) (keys l) (within opened)
+keys_stay opened l = list_stays opened l.names (length (by_key (rows_in l.sections))) (groups_in (by_key (rows_in l.sections)))
+
+-- ---- texts
+
+name_has : (name : List ℕ) → HasTexts (name_part name) (if_bytes name)
+name_has [] = record { by = refl }
+name_has (c ∷ cs) = record { by = refl }
+
+head_has : (r : KeyRowSeen) → HasTexts (key_head r) (if_bytes r.name)
+unfolding key_head
+head_has r =
+    let numbers : HasTexts (put piece.Key & count r.place.file & put piece.LineId & count r.place.line & put piece.SectionName) [] = record { by = refl } in
+    upto (upto (upto (upto (past numbers (name_has r.name)) (piece_none piece.SectionSays)) (piece_none piece.KeyPrint)) (say_none r.key)) (piece_none piece.FingerprintEnd)
+
+counts_none : (files lines : ℕ) → HasTexts (key_counts files lines) []
+unfolding key_counts
+counts_none files lines =
+    past (past (past (say_none (codes " in ")) (many_none files (codes " file") (codes " files"))) (say_none (codes ", on "))) (many_none lines (codes " line") (codes " lines"))
+
+rows-have : (names : List (List ℕ)) (rows : List KeyRowSeen) → texts_of (each (row_link names) rows) ≡ map (file_name names) rows
+rows-have names [] = refl
+rows-have names (r ∷ rows) =
+    ap (λ texts. texts ++ texts_of (each (row_link names) rows)) (next_has names r.place).by ∙ ap (λ texts. file_name names r ∷ texts) (rows-have names rows)
+
+key_has : (names : List (List ℕ)) (files : ℕ) (rows : List KeyRowSeen) → HasTexts (key_by names files rows) (key_texts names rows)
+key_has names files [] = record { by = refl }
+key_has names files (r ∷ rows) =
+    let links : HasTexts (each (row_link names) rows) (map (file_name names) rows) = record { by = rows-have names rows } in
+    let told = upto (upto (head_has r) (counts_none files (length (r ∷ rows)))) (piece_none piece.Places) in
+    let all = upto (has (has told (link_has names r.place)) links) (piece_none piece.KeyEnd) in
+    record { by = all.by ∙ append_assoc (if_bytes r.name) (file_name names r ∷ []) (map (file_name names) rows) }
+
+each-have : (names : List (List ℕ)) (groups : List KeyGroupSeen) → texts_of (each (key_part names) groups) ≡ flat_map (λ (g : KeyGroupSeen). key_texts names g.rows) groups
+each-have names [] = refl
+each-have names (g ∷ groups) =
+    ap (λ texts. texts ++ texts_of (each (key_part names) groups)) (key_has names g.files g.rows).by ∙ ap (λ texts. key_texts names g.rows ++ texts) (each-have names groups)
+
+list_has : (names : List (List ℕ)) (lines : ℕ) (groups : List KeyGroupSeen) → HasTexts (key_list names lines groups) (flat_map (λ (g : KeyGroupSeen). key_texts names g.rows) groups)
+unfolding key_list list_head
+list_has names lines groups =
+    let words : HasTexts (list_head (length groups) lines) [] = record { by = refl } in
+    let inner : HasTexts (each (key_part names) groups) (flat_map (λ (g : KeyGroupSeen). key_texts names g.rows) groups) = record { by = each-have names groups } in
+    upto (past words inner) (piece_none piece.MendEnd)
+
+pub keys_have : (l : LinesSeen) → HasTexts (keys l) (keys_texts l)
+keys_have l = list_has l.names (length (by_key (rows_in l.sections))) (groups_in (by_key (rows_in l.sections)))
+
+-- ---- pieces
+
+key_shape : (names other : List (List ℕ)) (files : ℕ) (rows : List KeyRowSeen) → SameShape (key_by names files rows) (key_by other files rows)
+key_shape names other files [] = record { by = refl }
+key_shape names other files (r ∷ rows) =
+    let told = like (key_head r & key_counts files (length (r ∷ rows)) & put piece.Places) in
+    join (join (join told (link_shape names other r.place)) (each_shape (row_link names) (row_link other) (λ (s : KeyRowSeen). next_shape names other s.place) rows)) (like (put piece.KeyEnd))
+
+list_shape : (names other : List (List ℕ)) (lines : ℕ) (groups : List KeyGroupSeen) → SameShape (key_list names lines groups) (key_list other lines groups)
+unfolding key_list
+list_shape names other lines groups =
+    let words = like (list_head (length groups) lines) in
+    join (join words (each_shape (key_part names) (key_part other) (λ (g : KeyGroupSeen). key_shape names other g.files g.rows) groups)) (like (put piece.MendEnd))
+
+pub keys_shape : (l : LinesSeen) (names : List (List ℕ)) → SameShape (keys l) (keys (renamed names l))
+keys_shape l names = list_shape l.names names (length (by_key (rows_in l.sections))) (groups_in (by_key (rows_in l.sections)))

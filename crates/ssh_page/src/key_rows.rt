@@ -1,0 +1,159 @@
+//! The rows that have a key, read off the marked text of the sections: where they are, whose key it
+//! is, and its fingerprint. So no memory is needed for them while files are read.
+
+ghost use Rattle.std.specs.Prelude.{◌≡◌, ◌++◌, IfOk, OnOk, map, option_map};
+ghost use Rattle.ssh_page.specs.KeyRows.{behind, fingerprint, front_text, key_row, name_in, number_of, print_in, row_place, row_seen, rows_at, rows_in};
+ghost use Rattle.ssh_page.specs.Shown.{is_printable};
+
+use crate::found_rows::with_digit;
+use crate::piece::Piece;
+use crate::record::RowPlace;
+use std::alloc::{AllocError, Global};
+
+/// A row that has a key.
+#[derive(Clone, Copy, Debug)]
+pub(crate) struct KeyRow<'a> {
+    pub(crate) place: RowPlace,
+    /// Its comment, as it stands in the section; no bytes if there is none.
+    pub(crate) name: &'a [u8],
+    /// The fingerprint of its key.
+    pub(crate) key: [u8; 43],
+}
+
+fn is_printable(byte: u8) -> bool
+    ensures { result ≡ is_printable byte }
+{
+    byte >= 32 && byte < 127
+}
+
+/// What stands behind the first piece of this kind; nothing if there is none.
+fn behind(marks: &[u8], piece: Piece) -> &[u8]
+    ensures { result.now ≡ behind piece marks.now }
+{
+    let mut rest = marks;
+    while let [byte, more @ ..] = rest {
+        if *byte == piece.mark() {
+            return more;
+        }
+        rest = more;
+    }
+    b""
+}
+
+/// The printable text at the front.
+fn front_text(marks: &[u8]) -> &[u8]
+    ensures { result.now ≡ front_text marks.now }
+{
+    let mut count = 0;
+    for byte in marks {
+        if !is_printable(*byte) {
+            return marks.split_at(count).0;
+        }
+        count += 1;
+    }
+    marks
+}
+
+/// The number that these digits spell.
+fn number_of(digits: &[u8]) -> u64
+    ensures { result ≡ number_of digits.now }
+{
+    let mut number = 0;
+    for digit in digits {
+        number = with_digit(number, *digit);
+    }
+    number
+}
+
+/// The comment at the front of the cell of a key.
+fn name_in(cell: &[u8]) -> &[u8]
+    ensures { result.now ≡ name_in cell.now }
+{
+    match cell {
+        [byte, more @ ..] if *byte == Piece::Code.mark() => front_text(more),
+        _ => b"",
+    }
+}
+
+/// The text of the fingerprint in the cell of a key; nothing if there is none.
+fn print_in(cell: &[u8]) -> &[u8]
+    ensures { result.now ≡ print_in cell.now }
+{
+    let mut rest = cell;
+    while let [byte, more @ ..] = rest {
+        if *byte == Piece::RightsCell.mark() {
+            return b"";
+        }
+        if *byte == Piece::Fingerprint.mark() {
+            return front_text(more);
+        }
+        rest = more;
+    }
+    b""
+}
+
+/// A text of 43 characters.
+fn fingerprint(text: &[u8]) -> Option<[u8; 43]>
+    ensures { result ≡ fingerprint text.now }
+{
+    if text.len() == 43 {
+        text.first_chunk().copied()
+    } else {
+        None
+    }
+}
+
+/// The place of the row whose first piece stands in front of this.
+fn row_place(marks: &[u8]) -> RowPlace
+    ensures { result ≡ row_place marks.now }
+{
+    RowPlace {
+        file: number_of(front_text(behind(marks, Piece::FileId))),
+        line: number_of(front_text(behind(marks, Piece::LineId))),
+    }
+}
+
+/// The row whose first piece stands in front of this, if it has a key.
+fn key_row(marks: &[u8]) -> Option<KeyRow<'_>>
+    ensures { option_map row_seen result ≡ key_row marks.now }
+{
+    let cell = behind(marks, Piece::KeyCell);
+    match fingerprint(print_in(cell)) {
+        Some(key) => Some(KeyRow {
+            place: row_place(marks),
+            name: name_in(cell),
+            key,
+        }),
+        None => None,
+    }
+}
+
+/// Appends the row that begins with this byte, if one does and has a key.
+fn push_row<'a>(rows: &mut Vec<KeyRow<'a>>, byte: u8, marks: &'a [u8]) -> Result<(), AllocError>
+    ensures { OnOk result (map row_seen rows.new.items
+        ≡ map row_seen rows.old.items ++ rows_at byte marks.now) }
+{
+    if byte != Piece::Row.mark() {
+        return Ok(());
+    }
+    match key_row(marks) {
+        Some(row) => {
+            rows.push(row)?;
+            Ok(())
+        }
+        None => Ok(()),
+    }
+}
+
+/// The rows of sections in marked text that have a key, in their order.
+pub(crate) fn rows_in(alloc: Global, sections: &[u8]) -> Result<Vec<KeyRow<'_>>, AllocError>
+    ensures { IfOk result (λ rows. map row_seen rows.items ≡ rows_in sections.now) }
+{
+    let mut rows = Vec::new(alloc);
+    let mut rest = sections;
+    while let [byte, more @ ..] = rest {
+        push_row(&mut rows, *byte, more)?;
+        rest = more;
+    }
+    Ok(rows)
+}
