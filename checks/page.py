@@ -69,6 +69,7 @@ return {
         e.localName == 'dt' ? [text(e.querySelector('.cd')), text(e.querySelector('.n')), e.querySelector('svg').getAttribute('viewBox'), e.querySelector('rect').getAttribute('width'), text(e.querySelector('.mean'))] : text(e.firstElementChild))]),
     places: [...document.querySelectorAll('#mend dd')].map(d => [text(d.previousElementSibling.querySelector('.cd')), [...d.children].slice(1).map(p => [p.className, text(p)]), [...d.querySelectorAll('.places>a')].map(a => [a.getAttribute('href'), text(a.querySelector('code')), text(a)])]),
     keys: [...document.querySelectorAll('#keys>article')].map(a => [a.id, text(a.querySelector('h3>code')), text(a.querySelector('samp')), text(a.querySelector('p')), [...a.querySelectorAll('.places>a')].map(l => [l.getAttribute('href'), text(l.querySelector('code')), text(l)])]),
+    picture: [...document.querySelectorAll('#keys>.mx>tbody>tr')].map(r => [r.querySelector('a').getAttribute('href'), text(r.querySelector('code')), text(r.cells[1]), r.querySelector('svg').getAttribute('viewBox'), r.querySelector('path').getAttribute('d')]),
     keys_say: [...document.querySelectorAll('#keys>p')].map(text),
     rest: [...document.querySelectorAll('#mend>p')].filter(p => p.className != 'says' || p.previousElementSibling.localName != 'h3').map(text), absent: [...document.querySelectorAll('#mend>ul>li')].map(text),
 };})()"""
@@ -249,10 +250,19 @@ def wrong_keys(read):
         yield "in another order", in_files
 
 
+def picture_of(read):
+    """The picture, by the list of keys: the first 40 that are in more than two files, and a mark for the file of each line."""
+    for name, comment, _, _, links in read["keys"][:40]:
+        files = [link[0].split("l")[0].removeprefix("#f") for link in links]
+        if len(set(files)) > 2:
+            yield [f"#{name}", comment, str(len(set(files))), f"0 0 {len(read['files'])} 1", "".join(f"M{file} 0h1v1h-1z" for file in files)]
+
+
 def key_rows(read):
     """What is said of the keys, by the lines that have them."""
     keys = rows_by_key(read)
     yield "each line with a key is once in the list of keys", list(wrong_keys(read)), []
+    yield "the picture of the keys in many files", read["picture"], list(picture_of(read))
     yield "the number of keys", read["keys_say"], [f"{len(keys)} different keys, on {sum(map(len, keys.values()))} lines. Those in most files come first."]
 
 
@@ -387,6 +397,8 @@ WRONG = (
     ("a key has the comment of its last line", "    comment, _, file, line = rows[0]\n", "    comment, _, file, line = rows[0]\n    comment = rows[-1][0]\n"),
     ("a key is in as many files as lines", "    files = len({file for _, _, file, _ in rows})", "    files = len(rows)"),
     ("keys in the order of their fingerprints", "key=lambda one: -len(", "key=lambda one: 0 * len("),
+    ("a key in two files is in the picture", "for _, _, file, _ in rows}) > 2]", "for _, _, file, _ in rows}) > 1]"),
+    ("a mark of the file before", "page.put(\"Column\").say(file)", "page.put(\"Column\").say(max(file - 1, 0))"),
     ("what to do about another code", "say(REMEDIES[code])", 'say(REMEDIES["F3"])'),
     ("a code that was found is not found", "if code not in found]", 'if code not in found or code == "F9"]'),
     ("another code was looked for", 'if code in total["told"]]', 'if code in total["told"] or code == "F15"]'),

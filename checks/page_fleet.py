@@ -167,6 +167,7 @@ def keys(said):
         b"web2/comments/authorized_keys": b"# " + said(b"nobody") + b"\n\n  # <b>\n",
         b"web3/unread/authorized_keys": b"no-ptty\nssh-ed25519\n",
         b"web3/last/authorized_keys": b"restrict " + ed25519("carol") + b" " + said(b"carol, without an LF at the end"),
+        b"web3/ann/authorized_keys": ed25519("ann") + b"\n",
     }
 
 
@@ -178,6 +179,7 @@ def hosts(said):
         b"web2/gone/known_hosts": None,
         b"web2/empty/known_hosts": b"",
         b"web2/bob/known_hosts": b"web1.example " + ed25519("web1") + b"\n",
+        b"web3/bob/known_hosts": b"web1.example " + ed25519("web1") + b"\n",
     }
 
 

@@ -214,6 +214,15 @@ PIECES = {
     "Key": '<article class="key" id="k',
     "KeyPrint": "<samp>SHA256:",
     "KeyEnd": "</p>\n</article>\n",
+    # the keys in many files, as a picture
+    "Picture": '<table class="mx">\n<caption>Keys in more than two files: each column is a file, in the order of the list of files.</caption>\n<thead><tr><th scope="col">Key</th><th scope="col">Files</th><th scope="col">Where</th></tr></thead>\n<tbody>\n',
+    "PictureRow": '<tr><th scope="row"><a href="#k',
+    "Strip": '</td><td><svg class="strip" viewBox="0 0 ',
+    "StripColumns": ' 1" preserveAspectRatio="none" aria-hidden="true"><path class="full" d="',
+    "Column": "M",
+    "ColumnEnd": " 0h1v1h-1z",
+    "StripEnd": '"></path></svg></td></tr>\n',
+    "PictureEnd": "</tbody>\n</table>\n",
     "Lines": '<section id="lines">\n<h2>Every line, by file</h2>\n<div class="all">\n',
     "LinesEnd": "</div>\n</section>\n",
     "PageEnd": "</main>\n<footer><p>Written by ssh_audit review --form html. No script, nothing from outside, no link out.</p></footer>\n</body>\n</html>\n",
@@ -540,13 +549,32 @@ def keys_of(files):
     return sorted(sorted(keys.items()), key=lambda one: -len({file for _, _, file, _ in one[1]}))
 
 
-def put_key_of(page, key, rows):
-    comment, _, file, line = rows[0]
-    page.put("Key").say(file).put("LineId").say(line).put("SectionName")
+def put_name(page, comment):
     if comment:
         page.tell(comment)
     else:
         page.put("NoComment")
+
+
+def put_picture(page, keys, files):
+    """A row for each of the first 40 keys that is in more than two files, and in it a mark for each file."""
+    wide = [rows for _, rows in keys[:40] if len({file for _, _, file, _ in rows}) > 2]
+    page.put(*["Picture"] * bool(wide))
+    for rows in wide:
+        comment, _, file, line = rows[0]
+        page.put("PictureRow").say(file).put("LineId").say(line).put("FileName")
+        put_name(page, comment)
+        page.put("FirstCount").say(len({file for _, _, file, _ in rows})).put("Strip").say(len(files)).put("StripColumns")
+        for _, _, file, _ in rows:
+            page.put("Column").say(file).put("ColumnEnd")
+        page.put("StripEnd")
+    page.put(*["PictureEnd"] * bool(wide))
+
+
+def put_key_of(page, key, rows):
+    comment, _, file, line = rows[0]
+    page.put("Key").say(file).put("LineId").say(line).put("SectionName")
+    put_name(page, comment)
     files = len({file for _, _, file, _ in rows})
     page.put("SectionSays", "KeyPrint").say(key.removeprefix("SHA256:")).put("FingerprintEnd")
     page.say(f" in {few(files, 'file', 'files')}, on {few(len(rows), 'line', 'lines')}").put("Places")
@@ -559,6 +587,7 @@ def put_key_of(page, key, rows):
 def put_keys(page, files):
     keys = keys_of(files)
     page.put("Keys").say(f"{len(keys)} different keys, on {sum(len(rows) for _, rows in keys)} lines. Those in most files come first.").put("ParagraphEnd")
+    put_picture(page, keys, files)
     for key, rows in keys:
         put_key_of(page, key, rows)
     page.put("MendEnd")

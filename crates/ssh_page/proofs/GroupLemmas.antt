@@ -1,12 +1,12 @@
 -- Each row is in the list once, with all rows of its key.
-use Rattle.std.proofs.Common.{◌≡◌, ◌∙◌, ◌+◌, ◌<◌, Bool, true, false, not, ◌&&◌, cond, List, [], ◌∷◌, ◌++◌, ℕ, map, take, drop, filter, length, arith, refl, ap, sym, subst, subst₂, true≢false, add-one, append_assoc, is_eq, is_lt, nat_cmp, Ordering, Less, Equal, Greater, IsPermutation}
+use Rattle.std.proofs.Common.{◌≡◌, ◌∙◌, ◌+◌, ◌<◌, Bool, true, false, not, ◌&&◌, cond, List, [], ◌∷◌, ◌++◌, map, take, drop, filter, length, arith, refl, ap, sym, subst, subst₂, true≢false, add-one, append_assoc, is_eq, is_lt, nat_cmp, Ordering, Less, Equal, Greater, IsPermutation}
 use Rattle.std.specs.Prelude.{bytes_eq}
 use Rattle.std.specs.Cmp.{IsStrictWeakOrder}
 use Rattle.std.specs.Cmp.Lexicographic.{bytes_decides, nat_list_cmp_total, slice_cmp}
 use Rattle.std.specs.List.{AllByRecursion, flat_map}
 use Rattle.std.specs.List.Sorted.{ties}
 use Rattle.std.specs.Ordering.{ordering_reverse}
-use Rattle.std.proofs.lemmas.List.Sorted.{IsPermutation-append_left, IsPermutation-append_right, IsPermutation-append_comm, IsPermutation-cons, IsPermutation-refl, IsPermutation-trans, ranks_by}
+use Rattle.std.proofs.lemmas.List.Sorted.{IsPermutation-append_left, IsPermutation-append_right, IsPermutation-append_comm, IsPermutation-refl, IsPermutation-trans, ranks_by}
 use Rattle.std.proofs.lemmas.Map.Text.{is_eq-slice_cmp}
 use Rattle.ssh_page.specs.KeyGroups.{AreOfOneKey, KeyGroupSeen, alike, by_key, files_before, first_key, group_of, groups_in, has_key, key_before, listed, put_first, runs}
 use Rattle.ssh_page.specs.KeyRows.{KeyRowSeen}

@@ -1,16 +1,16 @@
 -- The list of keys has texts of bytes, whatever stands in the sections: what is copied from them is printable.
-use Rattle.std.proofs.Common.{◌≡◌, ◌∙◌, ◌==◌, ◌&&◌, ℕ, zero, suc, nat_le, nat_lt, Bool, true, false, cond, List, [], ◌∷◌, ◌++◌, length, map, refl, arith, option_to_list, slice_get, unwrap_or}
-use Rattle.std.specs.Prelude.{Option, Some, None, bytes_eq, codes}
+use Rattle.std.proofs.Common.{◌≡◌, ◌==◌, ℕ, zero, suc, nat_le, nat_lt, Bool, true, false, cond, List, [], ◌∷◌, ◌++◌, length, map, take, refl, arith, option_to_list}
+use Rattle.std.specs.Prelude.{Some, None, bytes_eq, codes}
 use Rattle.std.specs.List.{AllByRecursion, list_all}
 use Rattle.std.proofs.lemmas.Bool.{and_from, and_parts, ltb-true}
 use Rattle.ssh_offers.specs.FirstRefusal.{AreBytes}
 use Rattle.ssh_page.specs.declared.piece.Piece.TheVariants as piece
 use Rattle.ssh_page.specs.declared.record.RowPlace.{RowPlace}
-use Rattle.ssh_page.specs.Documents.{Document, IsOfBytes, nothing, say, count, each, ◌&◌}
+use Rattle.ssh_page.specs.Documents.{IsOfBytes, nothing, put, say, count, each, ◌&◌}
 use Rattle.ssh_page.specs.Headers.{how_many}
 use Rattle.ssh_page.specs.KeyGroups.{KeyGroupSeen, by_key, files_before, group_of, groups_in, key_before, put_first, runs}
-use Rattle.ssh_page.specs.KeyLists.{key_by, key_counts, key_head, key_list, key_part, keys, list_head, name_part, row_link}
-use Rattle.ssh_page.specs.KeyRows.{KeyRowSeen, behind, fingerprint, front_text, key_row, name_in, print_in, row_place, rows_at, rows_in, with_print}
+use Rattle.ssh_page.specs.KeyLists.{column, has_wide, is_wide, key_by, key_counts, key_head, key_list, key_part, keys, list_head, name_part, picture, picture_name, picture_row, row_link, strip}
+use Rattle.ssh_page.specs.KeyRows.{KeyRowSeen, behind, front_text, key_row, name_in, print_in, row_place, rows_at, rows_in, with_print}
 use Rattle.ssh_page.specs.Pieces.{mark}
 use Rattle.ssh_page.specs.Places.{LinesSeen, name_at, next_link, place_link}
 use Rattle.ssh_page.specs.Shown.{are_printable, is_printable}
@@ -161,6 +161,39 @@ each-are : (names : List (List ℕ)) → AllByRecursion AreBytes names → (grou
 each-are names h [] k = tt
 each-are names h (g ∷ groups) k = (key-are names h g.files g.rows k.0, each-are names h groups k.1)
 
+columns-are : (rows : List KeyRowSeen) → IsOfBytes (each column rows)
+unfolding column
+columns-are [] = tt
+columns-are (r ∷ rows) = (((tt, tt), tt), columns-are rows)
+
+picture-name-are : (r : KeyRowSeen) (files : ℕ) → IsShown r → IsOfBytes (picture_name r files)
+unfolding picture_name
+picture-name-are r files h = ((((((((tt, tt), tt), tt), tt), name-part-are r.name h.0), tt), tt), tt)
+
+strip-are : (all files : ℕ) (rows : List KeyRowSeen) → AllByRecursion IsShown rows → IsOfBytes (strip all files rows)
+strip-are all files [] k = tt
+strip-are all files (r ∷ rows) k = ((((picture-name-are r files k.0, tt), tt), columns-are (r ∷ rows)), tt)
+
+row-are : (all : ℕ) (g : KeyGroupSeen) → AllByRecursion IsShown g.rows → IsOfBytes (picture_row all g)
+row-are all g k = go (is_wide g)
+  where
+    go : (b : Bool) → IsOfBytes (cond b (strip all g.files g.rows) nothing)
+    go true = strip-are all g.files g.rows k
+    go false = tt
+
+picture-rows-are : (all n : ℕ) (groups : List KeyGroupSeen) → AllByRecursion (λ (g : KeyGroupSeen). AllByRecursion IsShown g.rows) groups → IsOfBytes (each (picture_row all) (take n groups))
+picture-rows-are all zero groups k = tt
+picture-rows-are all (suc n) [] k = tt
+picture-rows-are all (suc n) (g ∷ groups) k = (row-are all g k.0, picture-rows-are all n groups k.1)
+
+picture-are : (all : ℕ) (groups : List KeyGroupSeen) → AllByRecursion (λ (g : KeyGroupSeen). AllByRecursion IsShown g.rows) groups → IsOfBytes (picture all groups)
+unfolding picture
+picture-are all groups k = go (has_wide groups)
+  where
+    go : (b : Bool) → IsOfBytes (cond b (put piece.Picture & each (picture_row all) (take 40 groups) & put piece.PictureEnd) nothing)
+    go true = ((tt, picture-rows-are all 40 groups k), tt)
+    go false = tt
+
 list-head-are : (keys lines : ℕ) → IsOfBytes (list_head keys lines)
 unfolding list_head
 list-head-are keys lines =
@@ -169,7 +202,8 @@ list-head-are keys lines =
 list-are : (names : List (List ℕ)) → AllByRecursion AreBytes names → (lines : ℕ) (groups : List KeyGroupSeen) → AllByRecursion (λ (g : KeyGroupSeen). AllByRecursion IsShown g.rows) groups
     → IsOfBytes (key_list names lines groups)
 unfolding key_list
-list-are names h lines groups k = ((list-head-are (length groups) lines, each-are names h groups k), tt)
+list-are names h lines groups k =
+    (((list-head-are (length groups) lines, picture-are (length names) groups k), each-are names h groups k), tt)
 
 pub keys_are : (l : LinesSeen) → AllByRecursion AreBytes l.names → IsOfBytes (keys l)
 keys_are l h = list-are l.names h (length (by_key (rows_in l.sections))) (groups_in (by_key (rows_in l.sections))) (all-shown l.sections)

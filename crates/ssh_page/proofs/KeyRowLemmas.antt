@@ -1,5 +1,5 @@
 -- The rows with a key that are read off a part of the page are those of its lines with a key.
-use Rattle.std.proofs.Common.{◌≡◌, ◌∙◌, ◌+◌, ◌<◌, ◌==◌, ◌&&◌, ◌||◌, ◌^◌, ℕ, nat_le, nat_lt, Bool, true, false, cond, List, [], ◌∷◌, ◌++◌, length, refl, ap, ap₂, sym, true≢false, append_assoc, arith, eq-eqb, ltb-true, ne_eqb, option_to_list}
+use Rattle.std.proofs.Common.{◌≡◌, ◌∙◌, ◌+◌, ◌<◌, ◌==◌, ◌||◌, ◌^◌, ℕ, nat_le, nat_lt, Bool, true, false, cond, List, [], ◌∷◌, ◌++◌, length, refl, ap, ap₂, sym, true≢false, append_assoc, arith, eq-eqb, ltb-true, ne_eqb, option_to_list}
 use Rattle.std.specs.Prelude.{Option, Some, None, codes}
 use Rattle.std.specs.Fmt.{decimal}
 use Rattle.std.proofs.lemmas.Bool.{and_parts}
@@ -24,8 +24,8 @@ use Rattle.ssh_page.specs.declared.file.FileKind.{FileKind}
 use Rattle.ssh_page.specs.declared.piece.Piece.{Piece}
 use Rattle.ssh_page.specs.declared.piece.Piece.TheVariants as piece
 use Rattle.ssh_page.specs.declared.record.RowPlace.{RowPlace}
-use Rattle.ssh_page.specs.Classes.{class_of, class_piece, code_number}
-use Rattle.ssh_page.specs.Documents.{Document, IsOfBytes, nothing, put, say, tell, copied, count, each, marks, ◌&◌}
+use Rattle.ssh_page.specs.Classes.{class_of, class_piece}
+use Rattle.ssh_page.specs.Documents.{Document, IsOfBytes, nothing, put, say, tell, copied, count, marks, ◌&◌}
 use Rattle.ssh_page.specs.Files.{ClassesSeen, FileSeen, empty_section, fault_section, section, section_end, section_head}
 use Rattle.ssh_page.specs.FoundRows.{AreNumbers}
 use Rattle.ssh_page.specs.HostRecords.{bare_row, host_cells, host_entry_row, revoked_cells, revoked_row, role}

@@ -1,11 +1,11 @@
 -- Rows in the order of keys, cut where the key changes.
-use Rattle.std.proofs.Common.{◌≡◌, ◌∙◌, ◌+◌, ◌-◌, ◌^◌, ◌<◌, ℕ, Bool, true, false, cond, List, [], ◌∷◌, ◌++◌, map, length, take, drop, refl, ap, sym, subst, arith, add-one, append_assoc, Option, Some, None, MatchOption, option_copied, is_lt, nat_cmp, Bor, IsSortedByKey, take_all, le_refl, eq-eqb}
+use Rattle.std.proofs.Common.{◌≡◌, ◌∙◌, ◌+◌, ◌-◌, ◌^◌, ◌<◌, ℕ, Bool, true, false, cond, List, [], ◌∷◌, ◌++◌, map, length, take, drop, refl, ap, sym, subst, arith, add-one, append_assoc, min, Option, Some, None, MatchOption, option_copied, is_lt, nat_cmp, Bor, IsSortedByKey, take_all, le_refl, eq-eqb}
 use Rattle.std.specs.Prelude.{bytes_eq}
 use Rattle.std.specs.Cmp.{IsStrictWeakOrder, nat_cmp_total}
 use Rattle.std.specs.Cmp.Lexicographic.{bytes_decides, nat_list_cmp_total, slice_cmp}
 use Rattle.std.specs.List.Sorted.{IsStableByKey}
 use Rattle.std.specs.Array.{IsFirstChunk}
-use Rattle.std.proofs.lemmas.List.{drop-map, length-map, map-append, take-map}
+use Rattle.std.proofs.lemmas.List.{drop-map, length-map, map-append, take-map, take_min}
 use Rattle.std.proofs.lemmas.List.Sorted.{ranks_by}
 use Rattle.ssh_page.specs.declared.key_groups.KeyGroup.{KeyGroup}
 use Rattle.ssh_page.specs.declared.key_rows.KeyRow.{KeyRow}
@@ -85,3 +85,6 @@ chunk_is (Some c) text long is =
 
 pub same_number : (groups : List KeyGroup) → length (map group_seen groups) ≡ length groups
 same_number groups = length-map groups group_seen
+
+pub first_seen : (n : ℕ) (groups : List KeyGroup) → map group_seen (take (min n (length groups)) groups) ≡ take n (map group_seen groups)
+first_seen n groups = ap (map group_seen) (take_min n groups) ∙ sym (take-map group_seen n groups)

@@ -1,5 +1,5 @@
 -- The rows that have a key, those with one key together (this project's rule).
-use Rattle.std.specs.Prelude.{◌≡◌, ◌<◌, ◌+◌, ◌∷◌, [], ◌-◌, ◌^◌, ◌==◌, ℕ, nat_lt, Bool, false, List, length, map, filter, Option, Some, None, bytes_eq, if◌then◌else◌}
+use Rattle.std.specs.Prelude.{◌≡◌, ◌<◌, ◌+◌, ◌∷◌, [], ◌-◌, ◌^◌, ◌==◌, ℕ, Bool, false, List, length, map, filter, Option, Some, None, bytes_eq, if◌then◌else◌}
 use Rattle.std.specs.Cmp.Lexicographic.{slice_cmp}
 use Rattle.std.specs.List.{flat_map, fold}
 use Rattle.std.specs.Ordering.{is_lt, nat_cmp}

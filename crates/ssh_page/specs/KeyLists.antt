@@ -1,5 +1,5 @@
 -- Where each key stands (this project's rule): for each different key the lines that have it, as links to their rows.
-use Rattle.std.specs.Prelude.{◌++◌, ◌∷◌, [], ℕ, List, length, map, codes}
+use Rattle.std.specs.Prelude.{◌++◌, ◌∷◌, [], ℕ, nat_lt, Bool, false, List, length, map, take, codes, if◌then◌else◌}
 use Rattle.std.specs.List.{flat_map}
 use Rattle.ssh_page.specs.declared.piece.Piece.TheVariants as piece
 use Rattle.ssh_page.specs.Documents.{Document, nothing, put, say, copied, count, each, ◌&◌}
@@ -41,6 +41,44 @@ key_by names files (r ∷ rows) =
 abbrev pub key_part : List (List ℕ) → KeyGroupSeen → Document
 key_part names g = key_by names g.files g.rows
 
+-- ---- the keys in many files, as a picture
+
+-- it is in more than two files
+abbrev pub is_wide : KeyGroupSeen → Bool
+is_wide g = nat_lt 2 g.files
+
+-- the first of these keys is
+abbrev pub has_wide : List KeyGroupSeen → Bool
+has_wide [] = false
+has_wide (g ∷ groups) = is_wide g
+
+-- the mark of the file of a row
+unfoldable pub column : KeyRowSeen → Document
+column r = put piece.Column & count r.place.file & put piece.ColumnEnd
+
+-- a link to a key with this first row, and in how many files it is
+unfoldable pub picture_name : KeyRowSeen → ℕ → Document
+picture_name r files =
+    put piece.PictureRow & count r.place.file & put piece.LineId & count r.place.line & put piece.FileName & name_part r.name
+    & put piece.FirstCount & count files & put piece.Strip
+
+-- a key with these rows, among so many files
+abbrev pub strip : ℕ → ℕ → List KeyRowSeen → Document
+strip all files [] = nothing
+strip all files (r ∷ rows) =
+    picture_name r files & count all & put piece.StripColumns & each column (r ∷ rows) & put piece.StripEnd
+
+-- a key in more than two of so many files; nothing of another
+abbrev pub picture_row : ℕ → KeyGroupSeen → Document
+picture_row all g = if is_wide g then strip all g.files g.rows else nothing
+
+-- of the first 40 keys those in more than two files, if the first is
+unfoldable pub picture : ℕ → List KeyGroupSeen → Document
+picture all groups =
+    if has_wide groups then put piece.Picture & each (picture_row all) (take 40 groups) & put piece.PictureEnd else nothing
+
+-- ---- the list
+
 -- the start of the list: how many keys there are, and on how many lines
 unfoldable pub list_head : ℕ → ℕ → Document
 list_head keys lines =
@@ -49,7 +87,8 @@ list_head keys lines =
 
 -- these keys, which stand on so many lines
 unfoldable pub key_list : List (List ℕ) → ℕ → List KeyGroupSeen → Document
-key_list names lines groups = list_head (length groups) lines & each (key_part names) groups & put piece.MendEnd
+key_list names lines groups =
+    list_head (length groups) lines & picture (length names) groups & each (key_part names) groups & put piece.MendEnd
 
 -- where each key stands, in the lines of all files
 abbrev pub keys : LinesSeen → Document
@@ -66,6 +105,20 @@ abbrev pub key_texts : List (List ℕ) → List KeyRowSeen → List (List ℕ)
 key_texts names [] = []
 key_texts names (r ∷ rows) = if_bytes r.name ++ file_name names r ∷ map (file_name names) rows
 
--- the same of all keys, in the order in which they stand
+-- of a key in the picture that comment alone
+abbrev pub first_name : List KeyRowSeen → List (List ℕ)
+first_name [] = []
+first_name (r ∷ rows) = if_bytes r.name
+
+abbrev pub row_texts : KeyGroupSeen → List (List ℕ)
+row_texts g = if is_wide g then first_name g.rows else []
+
+abbrev pub picture_texts : List KeyGroupSeen → List (List ℕ)
+picture_texts groups = if has_wide groups then flat_map row_texts (take 40 groups) else []
+
+-- the same of the picture and of all keys, in the order in which they stand
+abbrev pub list_texts : List (List ℕ) → List KeyGroupSeen → List (List ℕ)
+list_texts names groups = picture_texts groups ++ flat_map (λ (g : KeyGroupSeen). key_texts names g.rows) groups
+
 abbrev pub keys_texts : LinesSeen → List (List ℕ)
-keys_texts l = flat_map (λ (g : KeyGroupSeen). key_texts l.names g.rows) (groups_in (by_key (rows_in l.sections)))
+keys_texts l = list_texts l.names (groups_in (by_key (rows_in l.sections)))

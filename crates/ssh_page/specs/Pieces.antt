@@ -237,6 +237,27 @@ tags piece.Keys =
 tags piece.Key = begins (codes "article") (codes " class=\"key\" id=\"k") ∷ []
 tags piece.KeyPrint = opens (codes "samp") [] ∷ reads (codes "SHA256:") ∷ []
 tags piece.KeyEnd = closes (codes "p") ∷ reads (codes "\n") ∷ closes (codes "article") ∷ reads (codes "\n") ∷ []
+tags piece.Picture =
+    opens (codes "table") (codes " class=\"mx\"") ∷ reads (codes "\n") ∷ opens (codes "caption") []
+    ∷ reads (codes "Keys in more than two files: each column is a file, in the order of the list of files.")
+    ∷ closes (codes "caption") ∷ reads (codes "\n") ∷ opens (codes "thead") [] ∷ opens (codes "tr") []
+    ∷ opens (codes "th") (codes " scope=\"col\"") ∷ reads (codes "Key") ∷ closes (codes "th")
+    ∷ opens (codes "th") (codes " scope=\"col\"") ∷ reads (codes "Files") ∷ closes (codes "th")
+    ∷ opens (codes "th") (codes " scope=\"col\"") ∷ reads (codes "Where") ∷ closes (codes "th") ∷ closes (codes "tr")
+    ∷ closes (codes "thead") ∷ reads (codes "\n") ∷ opens (codes "tbody") [] ∷ reads (codes "\n") ∷ []
+tags piece.PictureRow =
+    opens (codes "tr") [] ∷ opens (codes "th") (codes " scope=\"row\"") ∷ begins (codes "a") (codes " href=\"#k") ∷ []
+tags piece.Strip =
+    closes (codes "td") ∷ opens (codes "td") [] ∷ begins (codes "svg") (codes " class=\"strip\" viewBox=\"0 0 ") ∷ []
+tags piece.StripColumns =
+    ends (codes " 1\" preserveAspectRatio=\"none\" aria-hidden=\"true\"")
+    ∷ begins (codes "path") (codes " class=\"full\" d=\"") ∷ []
+tags piece.Column = goes_on (codes "M") ∷ []
+tags piece.ColumnEnd = goes_on (codes " 0h1v1h-1z") ∷ []
+tags piece.StripEnd =
+    ends (codes "\"") ∷ closes (codes "path") ∷ closes (codes "svg") ∷ closes (codes "td") ∷ closes (codes "tr")
+    ∷ reads (codes "\n") ∷ []
+tags piece.PictureEnd = closes (codes "tbody") ∷ reads (codes "\n") ∷ closes (codes "table") ∷ reads (codes "\n") ∷ []
 tags piece.Lines =
     opens (codes "section") (codes " id=\"lines\"") ∷ reads (codes "\n") ∷ opens (codes "h2") []
     ∷ reads (codes "Every line, by file") ∷ closes (codes "h2") ∷ reads (codes "\n")

@@ -10,6 +10,7 @@ ghost use Rattle.ssh_page.specs.Places.{lines_seen};
 
 use crate::header::push_how_many;
 use crate::key_groups::{KeyGroup, groups_in, rows_by_key};
+use crate::key_picture::push_picture;
 use crate::key_rows::KeyRow;
 use crate::marks::{push_copied, push_piece};
 use crate::piece::Piece;
@@ -19,7 +20,7 @@ use ssh_text::Bytes;
 use std::alloc::{AllocError, Global};
 
 /// Appends a comment as it stands in the section, or that there is none.
-fn push_name(out: &mut Vec<u8>, name: &[u8]) -> Result<(), AllocError>
+pub(crate) fn push_name(out: &mut Vec<u8>, name: &[u8]) -> Result<(), AllocError>
     ensures { OnOk result (out.new.items ≡ out.old.items ++ marks (name_part name.now)) }
 {
     if name.is_empty() {
@@ -135,6 +136,7 @@ fn push_key_list(
         ≡ out.old.items ++ marks (key_list names.now lines (map group_seen groups.now))) }
 {
     push_list_head(out, groups.len() as u64, lines)?;
+    push_picture(out, names.len() as u64, groups)?;
     push_each_key(out, names, groups)?;
     push_piece(out, Piece::MendEnd)?;
     Ok(())

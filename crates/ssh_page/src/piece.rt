@@ -126,6 +126,15 @@ pub(crate) enum Piece {
     Key,
     KeyPrint,
     KeyEnd,
+    // The keys in many files, as a picture: a row for each, and in it a column for each file.
+    Picture,
+    PictureRow,
+    Strip,
+    StripColumns,
+    Column,
+    ColumnEnd,
+    StripEnd,
+    PictureEnd,
     // The lines of all files, around their sections.
     Lines,
     LinesEnd,
@@ -134,7 +143,7 @@ pub(crate) enum Piece {
 }
 
 /// The HTML of each piece.
-static MARKUP: [&str; 104] = [
+static MARKUP: [&str; 112] = [
     "<code>",
     "</code>",
     "<tr class=\"ln",
@@ -236,6 +245,14 @@ static MARKUP: [&str; 104] = [
     "<article class=\"key\" id=\"k",
     "<samp>SHA256:",
     "</p>\n</article>\n",
+    "<table class=\"mx\">\n<caption>Keys in more than two files: each column is a file, in the order of the list of files.</caption>\n<thead><tr><th scope=\"col\">Key</th><th scope=\"col\">Files</th><th scope=\"col\">Where</th></tr></thead>\n<tbody>\n",
+    "<tr><th scope=\"row\"><a href=\"#k",
+    "</td><td><svg class=\"strip\" viewBox=\"0 0 ",
+    " 1\" preserveAspectRatio=\"none\" aria-hidden=\"true\"><path class=\"full\" d=\"",
+    "M",
+    " 0h1v1h-1z",
+    "\"></path></svg></td></tr>\n",
+    "</tbody>\n</table>\n",
     "<section id=\"lines\">\n<h2>Every line, by file</h2>\n<div class=\"all\">\n",
     "</div>\n</section>\n",
     "</main>\n<footer><p>Written by ssh_audit review --form html. No script, nothing from outside, no link out.</p></footer>\n</body>\n</html>\n",

@@ -1,7 +1,6 @@
-use Rattle.std.proofs.Common.{◌∙◌, ap, map, refl, rules}
+use Rattle.std.proofs.Common.{◌∙◌, ap, rules}
 use Rattle.std.proofs.lemmas.List.Sorted.{answers_always}
 use Rattle.ssh_page.specs.KeyGroups.{by_key}
-use Rattle.ssh_page.specs.KeyRows.{row_seen}
 use Rattle.ssh_page.proofs.RunLemmas.{sorted_rows}
 use Rattle.ssh_page.proofs.key_groups.rows_by_key.Goals as goal
 
