@@ -166,7 +166,7 @@ def text_form(read, kind, has_codes):
     if has_codes:
         found = counted(read)
         lines += [f"{code}: {found[code]}, {reference_page.MEANS[code]}" for code in sorted(found, key=lambda code: (reference_page.SOON[code], int(code[1:])))]
-    return "".join(line + "\n" for line in [*lines, read["total"]]).encode()
+    return "".join(f"{line}\n" for line in [*lines, read["total"]]).encode()
 
 
 def numbers(text):
@@ -263,7 +263,7 @@ def key_rows(read):
     keys = rows_by_key(read)
     yield "each line with a key is once in the list of keys", list(wrong_keys(read)), []
     yield "the picture of the keys in many files", read["picture"], list(picture_of(read))
-    yield "the number of keys", read["keys_say"], [f"{len(keys)} different keys, on {sum(map(len, keys.values()))} lines. Those in most files come first."]
+    yield "the number of keys", read["keys_say"], [f"{len(keys)} different keys, on {sum(map(len, keys.values()))} lines, those that cannot be read or revoke a key among them. Those in most files come first."]
 
 
 def header_rows(read, asked):
@@ -391,10 +391,10 @@ WRONG = (
     ("the place of the line before", 'page.put("PlaceFile").say(file).put("LineId").say(line)', 'page.put("PlaceFile").say(file).put("LineId").say(max(line - 1, 1))'),
     ("the name of another file", 'places[code].append((end["file"], number', 'places[code].append((files[0][1]["file"], number'),
     ("a place is left out", 'put_places(page, [] if SOON[code] == "p" else places)', 'put_places(page, [] if SOON[code] == "p" else places[:-1])'),
-    ("the list of keys has a line without a key", '            if made["key"]:\n                keys', '            if True:\n                keys'),
+    ("the list of keys has a line without a key", 'if made["key"]:\n                keys[made["key"]]', 'if True:\n                keys[made["key"] or "SHA256:"]'),
     ("a line is left out of the list of keys", "                keys[made[\"key\"]].append", "                made[\"line\"] != 7 and keys[made[\"key\"]].append"),
     ("a line stands below the key of the line before", "keys[made[\"key\"]].append", "keys[records[max(records.index(made) - 1, 0)][\"key\"] or made[\"key\"]].append"),
-    ("a key has the comment of its last line", "    comment, _, file, line = rows[0]\n", "    comment, _, file, line = rows[0]\n    comment = rows[-1][0]\n"),
+    ("a key has the comment of its last line", "    put_name(page, comment)\n    files", "    put_name(page, rows[-1][0])\n    files"),
     ("a key is in as many files as lines", "    files = len({file for _, _, file, _ in rows})", "    files = len(rows)"),
     ("keys in the order of their fingerprints", "key=lambda one: -len(", "key=lambda one: 0 * len("),
     ("a key in two files is in the picture", "for _, _, file, _ in rows}) > 2]", "for _, _, file, _ in rows}) > 1]"),
@@ -423,6 +423,14 @@ def wrong_page(source, old, new, asked):
         return None
 
 
+def refusals(opened, asked):
+    """The rows by which the page that the browser has open is refused. A page that leads away has no colours to ask for."""
+    try:
+        return [what for what, found, wanted in (*dom_rows(opened, asked), *contrast_rows(opened)) if found != wanted]
+    except browser.Late as error:
+        return [str(error)]
+
+
 def wrong_rows(room, tally, opened, asked):
     """Each wrong page is refused by a row of the check, and not by the comparison with the right page alone."""
     source = pathlib.Path(reference_page.__file__).read_text()
@@ -432,7 +440,7 @@ def wrong_rows(room, tally, opened, asked):
         if page is not None:
             (room / "wrong.html").write_bytes(page)
             opened.open(room / "wrong.html")
-            rows = [what for what, found, wanted in (*dom_rows(opened, asked), *contrast_rows(opened)) if found != wanted]
+            rows = refusals(opened, asked)
         tally.check(f"refused: {name}", bool(rows) or page is None, True)
 
 

@@ -586,7 +586,7 @@ def put_key_of(page, key, rows):
 
 def put_keys(page, files):
     keys = keys_of(files)
-    page.put("Keys").say(f"{len(keys)} different keys, on {sum(len(rows) for _, rows in keys)} lines. Those in most files come first.").put("ParagraphEnd")
+    page.put("Keys").say(f"{len(keys)} different keys, on {sum(len(rows) for _, rows in keys)} lines, those that cannot be read or revoke a key among them. Those in most files come first.").put("ParagraphEnd")
     put_picture(page, keys, files)
     for key, rows in keys:
         put_key_of(page, key, rows)

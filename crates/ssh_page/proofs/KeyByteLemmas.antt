@@ -197,7 +197,7 @@ picture-are all groups k = go (has_wide groups)
 list-head-are : (keys lines : ℕ) → IsOfBytes (list_head keys lines)
 unfolding list_head
 list-head-are keys lines =
-    (((((tt, tt), bytes-by (codes " different keys, on ") refl), tt), bytes-by (codes " lines. Those in most files come first.") refl), tt)
+    (((((tt, tt), bytes-by (codes " different keys, on ") refl), tt), bytes-by (codes " lines, those that cannot be read or revoke a key among them. Those in most files come first.") refl), tt)
 
 list-are : (names : List (List ℕ)) → AllByRecursion AreBytes names → (lines : ℕ) (groups : List KeyGroupSeen) → AllByRecursion (λ (g : KeyGroupSeen). AllByRecursion IsShown g.rows) groups
     → IsOfBytes (key_list names lines groups)

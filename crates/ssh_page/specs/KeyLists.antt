@@ -83,7 +83,7 @@ picture all groups =
 unfoldable pub list_head : ℕ → ℕ → Document
 list_head keys lines =
     put piece.Keys & count keys & say (codes " different keys, on ") & count lines
-    & say (codes " lines. Those in most files come first.") & put piece.ParagraphEnd
+    & say (codes " lines, those that cannot be read or revoke a key among them. Those in most files come first.") & put piece.ParagraphEnd
 
 -- these keys, which stand on so many lines
 unfoldable pub key_list : List (List ℕ) → ℕ → List KeyGroupSeen → Document

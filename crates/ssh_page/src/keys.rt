@@ -119,7 +119,10 @@ fn push_list_head(out: &mut Vec<u8>, keys: u64, lines: u64) -> Result<(), AllocE
     push_number(out, keys)?;
     push_shown(out, b" different keys, on ")?;
     push_number(out, lines)?;
-    push_shown(out, b" lines. Those in most files come first.")?;
+    push_shown(
+        out,
+        b" lines, those that cannot be read or revoke a key among them. Those in most files come first.",
+    )?;
     push_piece(out, Piece::ParagraphEnd)?;
     Ok(())
 }
