@@ -51,3 +51,4 @@ pub mod KeyListingLemmas
 pub mod PageRowLemmas
 pub mod PageListingLemmas
 pub mod PagePlaceLemmas
+pub mod PageWordLemmas

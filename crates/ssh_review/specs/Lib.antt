@@ -47,3 +47,4 @@ pub mod HostRows
 pub mod PageFiles
 pub mod PageListing
 pub mod PagePlaces
+pub mod PageWords

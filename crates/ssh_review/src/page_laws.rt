@@ -4,14 +4,24 @@ ghost use Rattle.std.specs.Prelude.{◌≡◌, ◌<◌, ◌≤◌, ◌^◌, ℕ,
 ghost use Rattle.std.specs.List.{AllByRecursion};
 ghost use Rattle.ssh_findings.specs.Asking.{Asking};
 ghost use Rattle.ssh_findings.specs.Earlier.{Held};
+ghost use Rattle.ssh_findings.specs.FindingRows.{FindingRow};
 ghost use Rattle.ssh_findings.specs.HostLines.{HostLine};
 ghost use Rattle.ssh_findings.specs.declared.code.Code.{Code};
+ghost use Rattle.ssh_findings.specs.declared.facts.Facts.{Facts};
+ghost use Rattle.ssh_findings.specs.declared.finding.Finding.{Finding};
+ghost use Rattle.ssh_findings.specs.declared.host_facts.HostFacts.{HostFacts};
+ghost use Rattle.ssh_findings.specs.declared.host_finding.HostFinding.{HostFinding};
+ghost use Rattle.ssh_findings.specs.declared.recovered_key.HeldKey.{HeldKey};
 ghost use Rattle.ssh_offers.specs.declared.claim.Signed.{Signed};
 ghost use Rattle.ssh_offers.specs.HostClaim.{HostClaim};
 ghost use Rattle.ssh_offers.specs.LoginClaim.{LoginClaim};
 ghost use Rattle.ssh_page.specs.Documents.{IsOfBytes, marks};
+ghost use Rattle.ssh_page.specs.Findings.{finding_part};
 ghost use Rattle.ssh_page.specs.FoundRows.{HasPlaces};
+ghost use Rattle.ssh_page.specs.HostRecords.{bare_row, host_entry_row, revoked_row};
+ghost use Rattle.ssh_page.specs.Records.{entry_row, unreadable_row};
 ghost use Rattle.ssh_page.specs.declared.file.FileKind.{FileKind};
+ghost use Rattle.ssh_page.specs.declared.record.RowPlace.{RowPlace};
 ghost use Rattle.ssh_rights.specs.declared.rights.Rights.{Rights};
 ghost use Rattle.ssh_rules.specs.declared.reason.Reason.{Reason};
 ghost use Rattle.ssh_text.specs.Text.{file_limit};
@@ -24,6 +34,7 @@ ghost use Rattle.ssh_review.specs.Lines.{records_of};
 ghost use Rattle.ssh_review.specs.PageFiles.{file_rows, file_section};
 ghost use Rattle.ssh_review.specs.PageListing.{HasHostRow, HasRow};
 ghost use Rattle.ssh_review.specs.PagePlaces.{file_places};
+ghost use Rattle.ssh_review.specs.PageWords.{bare_words, entry_words, host_entry_words, linked_line, revoked_words, unreadable_words, words_on};
 ghost use Rattle.ssh_review.specs.Rows.{rows_of};
 ghost use Rattle.ssh_review.specs.declared.records.RecordForm.TheVariants.{AsRow};
 
@@ -37,6 +48,22 @@ fn rows_rule()
         (lines : List (ℕ × List ℕ))
         → host_records_of (AsRow file) asking name earlier lines
         ≡ marks (host_rows_of file asking earlier lines) }
+{}
+
+/// What the text form tells of a finding or a line, its row of the page tells in the same words.
+fn words_rule()
+    ensures finding { (file : ℕ) (r : FindingRow) → words_on (finding_part file r) ≡ linked_line r }
+    ensures entry { (place : RowPlace) (f : Facts) (found : List Finding)
+        → words_on (entry_row place f found) ≡ entry_words place.line f found }
+    ensures unreadable { (place : RowPlace) (held : Option HeldKey) (found : List Finding)
+        → words_on (unreadable_row place held found) ≡ unreadable_words place.line held found }
+    ensures host_entry { (place : RowPlace) (f : HostFacts) (found : List HostFinding)
+        → words_on (host_entry_row place f found) ≡ host_entry_words place.line f found }
+    ensures revoked { (place : RowPlace) (fingerprint names : List ℕ) (found : List HostFinding)
+        → words_on (revoked_row place fingerprint names found)
+        ≡ revoked_words place.line fingerprint names found }
+    ensures bare { (place : RowPlace) (is : List ℕ) (held : Option HeldKey) (found : List HostFinding)
+        → words_on (bare_row place is held found) ≡ bare_words place.line is held found }
 {}
 
 /// Whoever is let in or trusted is so by a line that has a row in the file's section.
