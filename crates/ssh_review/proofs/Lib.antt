@@ -52,3 +52,4 @@ pub mod PageRowLemmas
 pub mod PageListingLemmas
 pub mod PagePlaceLemmas
 pub mod PageWordLemmas
+pub mod PlainWordLemmas

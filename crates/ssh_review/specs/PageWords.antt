@@ -1,10 +1,10 @@
 -- What is read on the rows of the page, in the words of the text form (this project's rule).
-use Rattle.std.specs.Prelude.{◌++◌, ◌∷◌, [], ◌||◌, ℕ, Bool, true, false, List, Option, codes, bytes_eq, if◌then◌else◌}
+use Rattle.std.specs.Prelude.{◌≡◌, ◌++◌, ◌∷◌, [], ◌||◌, ℕ, Bool, true, false, List, Option, codes, bytes_eq, if◌then◌else◌}
 use Rattle.std.specs.Fmt.{decimal}
-use Rattle.std.specs.List.{flat_map}
+use Rattle.std.specs.List.{flat_map, list_all}
 use Rattle.ssh_keys.specs.declared.kind.KeyKind.{KeyKind}
 use Rattle.ssh_rights.specs.declared.rights.Rights.{Rights}
-use Rattle.ssh_print.specs.Texts.{escaped_text, text_line}
+use Rattle.ssh_print.specs.Texts.{escaped_text, is_plain_byte, text_line}
 use Rattle.ssh_findings.specs.Codes.{code_text}
 use Rattle.ssh_findings.specs.FindingRows.{FindingRow}
 use Rattle.ssh_findings.specs.Findings.{auth_row}
@@ -97,6 +97,20 @@ spoken valued (a & b) = spoken valued a ++ spoken (valued_after valued a) b
 -- what is read on it (this project's rule)
 abbrev pub words_on : Document → List ℕ
 words_on part = spoken false part
+
+-- a text that is escaped to itself (this project's rule)
+abbrev pub are_plain : List ℕ → Bool
+are_plain text = list_all is_plain_byte text
+
+-- no word of the program in it has a byte to escape (this project's rule)
+abbrev pub IsPlain : Document → Type 0
+IsPlain nothing = Unit {0}
+IsPlain (put p) = Unit {0}
+IsPlain (say text) = are_plain text ≡ true
+IsPlain (tell text) = Unit {0}
+IsPlain (copied text) = Unit {0}
+IsPlain (count n) = Unit {0}
+IsPlain (a & b) = IsPlain a × IsPlain b
 
 -- ---- findings
 

@@ -34,7 +34,7 @@ ghost use Rattle.ssh_review.specs.Lines.{records_of};
 ghost use Rattle.ssh_review.specs.PageFiles.{file_rows, file_section};
 ghost use Rattle.ssh_review.specs.PageListing.{HasHostRow, HasRow};
 ghost use Rattle.ssh_review.specs.PagePlaces.{file_places};
-ghost use Rattle.ssh_review.specs.PageWords.{bare_words, entry_words, host_entry_words, linked_line, revoked_words, unreadable_words, words_on};
+ghost use Rattle.ssh_review.specs.PageWords.{IsPlain, bare_words, entry_words, host_entry_words, linked_line, revoked_words, unreadable_words, words_on};
 ghost use Rattle.ssh_review.specs.Rows.{rows_of};
 ghost use Rattle.ssh_review.specs.declared.records.RecordForm.TheVariants.{AsRow};
 
@@ -64,6 +64,15 @@ fn words_rule()
         ≡ revoked_words place.line fingerprint names found }
     ensures bare { (place : RowPlace) (is : List ℕ) (held : Option HeldKey) (found : List HostFinding)
         → words_on (bare_row place is held found) ≡ bare_words place.line is held found }
+{}
+
+/// The words of the program in the rows of a file are written as they are: escaping leaves them as they
+/// stand in the text form.
+fn plain_rule()
+    ensures login { (file : ℕ) (asking : Asking) (earlier : List Held) (lines : List (ℕ × List ℕ))
+        → IsPlain (rows_of file asking earlier lines) }
+    ensures host { (file : ℕ) (asking : Asking) (earlier : List HostLine) (lines : List (ℕ × List ℕ))
+        → IsPlain (host_rows_of file asking earlier lines) }
 {}
 
 /// Whoever is let in or trusted is so by a line that has a row in the file's section.
