@@ -8,7 +8,7 @@ use Rattle.std.specs.List.Sorted.{ties}
 use Rattle.std.specs.Ordering.{ordering_reverse}
 use Rattle.std.proofs.lemmas.List.Sorted.{IsPermutation-append_left, IsPermutation-append_right, IsPermutation-append_comm, IsPermutation-refl, IsPermutation-trans, ranks_by}
 use Rattle.std.proofs.lemmas.Map.Text.{is_eq-slice_cmp}
-use Rattle.ssh_page.specs.KeyGroups.{AreOfOneKey, KeyGroupSeen, alike, by_key, files_before, first_key, group_of, groups_in, has_key, key_before, listed, put_first, runs}
+use Rattle.ssh_page.specs.KeyGroups.{AreOfOneKey, KeyGroupSeen, alike, by_key, files_before, first_key, group_of, groups_in, has_key, key_before, grouped_rows, put_first, runs}
 use Rattle.ssh_page.specs.KeyRows.{KeyRowSeen}
 use Rattle.ssh_page.specs.Sorting.{in_order, put_before}
 use Rattle.ssh_page.proofs.RunLemmas.{run-first}
@@ -57,7 +57,7 @@ runs-joined : (rows : List KeyRowSeen) → joined (runs rows) ≡ rows
 runs-joined [] = refl
 runs-joined (r ∷ rows) = put-joined r (runs rows) ∙ ap (λ l. r ∷ l) (runs-joined rows)
 
-groups-joined : (lists : List (List KeyRowSeen)) → listed (map group_of lists) ≡ joined lists
+groups-joined : (lists : List (List KeyRowSeen)) → grouped_rows (map group_of lists) ≡ joined lists
 groups-joined [] = refl
 groups-joined (l ∷ lists) = ap (λ rows. l ++ rows) (groups-joined lists)
 
@@ -66,14 +66,14 @@ each-once [] = refl
 each-once (x ∷ xs) = ap (λ l. x ∷ l) (each-once xs)
 
 -- each row is in the list once
-pub all_listed : (rows : List KeyRowSeen) → IsPermutation rows (listed (groups_in (by_key rows)))
+pub all_listed : (rows : List KeyRowSeen) → IsPermutation rows (grouped_rows (groups_in (by_key rows)))
 all_listed rows =
     let sorted = by_key rows in
     let first = subst₂ IsPermutation (each-once rows) (each-once sorted) (order-moves key_before (λ r. r ∷ []) rows) in
     let groups = map group_of (runs sorted) in
-    let same : listed groups ≡ sorted = groups-joined (runs sorted) ∙ runs-joined sorted in
-    IsPermutation-trans rows sorted (listed (groups_in sorted)) first
-    (subst (λ l. IsPermutation l (listed (groups_in sorted))) same (order-moves files_before (λ (g : KeyGroupSeen). g.rows) groups))
+    let same : grouped_rows groups ≡ sorted = groups-joined (runs sorted) ∙ runs-joined sorted in
+    IsPermutation-trans rows sorted (grouped_rows (groups_in sorted)) first
+    (subst (λ l. IsPermutation l (grouped_rows (groups_in sorted))) same (order-moves files_before (λ (g : KeyGroupSeen). g.rows) groups))
 
 -- ---- the rows of a key
 

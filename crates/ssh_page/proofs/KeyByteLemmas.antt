@@ -10,7 +10,7 @@ use Rattle.ssh_page.specs.Documents.{IsOfBytes, nothing, put, say, count, each, 
 use Rattle.ssh_page.specs.Headers.{how_many}
 use Rattle.ssh_page.specs.KeyGroups.{KeyGroupSeen, by_key, files_before, group_of, groups_in, key_before, put_first, runs}
 use Rattle.ssh_page.specs.KeyLists.{column, has_wide, is_wide, key_by, key_counts, key_head, key_list, key_part, keys, list_head, name_part, picture, picture_name, picture_row, row_link, strip}
-use Rattle.ssh_page.specs.KeyRows.{KeyRowSeen, behind, front_text, key_row, name_in, print_in, row_place, rows_at, rows_in, with_print}
+use Rattle.ssh_page.specs.KeyRows.{KeyRowSeen, behind, front_text, key_row, cell_comment, print_in, row_place, rows_at, rows_in, with_print}
 use Rattle.ssh_page.specs.Pieces.{mark}
 use Rattle.ssh_page.specs.Places.{LinesSeen, name_at, next_link, place_link}
 use Rattle.ssh_page.specs.Shown.{are_printable, is_printable}
@@ -26,7 +26,7 @@ front-printable (b ∷ m) = go (is_printable b) refl (front-printable m)
     go true e h = and_from (is_printable b) (are_printable (front_text m)) e h
     go false e h = refl
 
-name-printable : (cell : List ℕ) → are_printable (name_in cell) ≡ true
+name-printable : (cell : List ℕ) → are_printable (cell_comment cell) ≡ true
 name-printable [] = refl
 name-printable (b ∷ rest) = go (b == mark piece.Code)
   where
@@ -57,7 +57,7 @@ row-shown m = go (length print == 43)
     print : List ℕ
     print = print_in (behind piece.KeyCell m)
 
-    go : (p : Bool) → AllByRecursion IsShown (option_to_list (with_print (row_place m) (name_in (behind piece.KeyCell m)) (cond p (Some (print_in (behind piece.KeyCell m))) None)))
+    go : (p : Bool) → AllByRecursion IsShown (option_to_list (with_print (row_place m) (cell_comment (behind piece.KeyCell m)) (cond p (Some (print_in (behind piece.KeyCell m))) None)))
     go true = ((name-printable (behind piece.KeyCell m), print-printable (behind piece.KeyCell m)), tt)
     go false = tt
 

@@ -29,7 +29,7 @@ use Rattle.ssh_page.specs.Documents.{Document, IsOfBytes, nothing, put, say, tel
 use Rattle.ssh_page.specs.Files.{ClassesSeen, FileSeen, empty_section, fault_section, section, section_end, section_head}
 use Rattle.ssh_page.specs.FoundRows.{AreNumbers}
 use Rattle.ssh_page.specs.HostRecords.{bare_row, host_cells, host_entry_row, revoked_cells, revoked_row, role}
-use Rattle.ssh_page.specs.KeyRows.{HasKeyRows, IsHeldPrint, IsPrint, KeyRowSeen, behind, fingerprint, front_text, held_rows, key_row, name_in, number_of, print_in, row_of, row_place, rows_in, with_print}
+use Rattle.ssh_page.specs.KeyRows.{HasKeyRows, IsHeldPrint, IsPrint, KeyRowSeen, behind, fingerprint, front_text, held_rows, key_row, cell_comment, number_of, print_in, row_of, row_place, rows_in, with_print}
 use Rattle.ssh_page.specs.Pieces.{mark}
 use Rattle.ssh_page.specs.Records.{all_limits, bits_part, comment_part, entry_cells, entry_row, fingerprint_part, flag_part, held_part, key_part, put_if, rights_part, row_classes, row_findings, row_numbers, setting_part, unreadable_row}
 use Rattle.ssh_page.specs.Shown.{are_printable, is_printable}
@@ -234,14 +234,14 @@ unreadable-lacks = record { file = refl; line = refl; cell = refl }
 
 -- the comment at its front, and its fingerprint, wherever the next cell follows
 record Cell (d : Document) (name print : List ℕ) : Type 0 where
-  name_is : (rest : List ℕ) → name_in (marks d ++ mark piece.RightsCell ∷ rest) ≡ name
+  name_is : (rest : List ℕ) → cell_comment (marks d ++ mark piece.RightsCell ∷ rest) ≡ name
   print_is : (rest : List ℕ) → print_in (marks d ++ mark piece.RightsCell ∷ rest) ≡ print
 
 no-print : (rest : List ℕ) → print_in (mark piece.RightsCell ∷ rest) ≡ []
 unfolding mark
 no-print rest = refl
 
-no-name : (rest : List ℕ) → name_in (mark piece.RightsCell ∷ rest) ≡ []
+no-name : (rest : List ℕ) → cell_comment (mark piece.RightsCell ∷ rest) ≡ []
 unfolding mark
 no-name rest = refl
 
@@ -282,7 +282,7 @@ unfolding mark
 comment-lacks [] = refl
 comment-lacks (c ∷ cs) = (refl, refl)
 
-comment-name : (text rest : List ℕ) → IsOfBytes (comment_part text) → name_in (marks (comment_part text) ++ rest) ≡ escaped_text text
+comment-name : (text rest : List ℕ) → IsOfBytes (comment_part text) → cell_comment (marks (comment_part text) ++ rest) ≡ escaped_text text
 unfolding mark
 comment-name [] rest are = refl
 comment-name (c ∷ cs) rest are =
@@ -296,12 +296,12 @@ comment_cell text kind bits print are =
     let whole : HasPrint (comment_part text & key) (escaped_text print) = print_after are.0 (comment-lacks text) (key_print kind bits print are.1) in
     record {
       name_is = λ rest.
-          ap name_in (append_assoc (marks (comment_part text)) (marks key) (mark piece.RightsCell ∷ rest)) ∙ comment-name text (marks key ++ mark piece.RightsCell ∷ rest) are.0;
+          ap cell_comment (append_assoc (marks (comment_part text)) (marks key) (mark piece.RightsCell ∷ rest)) ∙ comment-name text (marks key ++ mark piece.RightsCell ∷ rest) are.0;
       print_is = λ rest. whole.by (mark piece.RightsCell ∷ rest);
     }
 
 -- words of the program are no comment
-word-name : (text rest : List ℕ) → are_printable text ≡ true → name_in rest ≡ [] → name_in (text ++ rest) ≡ []
+word-name : (text rest : List ℕ) → are_printable text ≡ true → cell_comment rest ≡ [] → cell_comment (text ++ rest) ≡ []
 word-name [] rest h none = none
 word-name (b ∷ text) rest h none =
     let both = and_parts (is_printable b) (are_printable text) h in
@@ -309,12 +309,12 @@ word-name (b ∷ text) rest h none =
 
 -- no comment stands at its front
 record Nameless (d : Document) : Type 0 where
-  by : (rest : List ℕ) → name_in rest ≡ [] → name_in (marks d ++ rest) ≡ []
+  by : (rest : List ℕ) → cell_comment rest ≡ [] → cell_comment (marks d ++ rest) ≡ []
 
 word_nameless : (word : List ℕ) (d : Document) → IsOfBytes (say word) → Nameless d → Nameless (say word & d)
 word_nameless word d are h = record {
   by = λ rest none.
-      ap name_in (append_assoc (escaped_text word) (marks d) rest)
+      ap cell_comment (append_assoc (escaped_text word) (marks d) rest)
       ∙ word-name (escaped_text word) (marks d ++ rest) (escaped-printable word are) (h.by rest none);
 }
 
@@ -395,7 +395,7 @@ read_row {d} {front} {cell} {place} {name} {print} b f c rest =
     found.1 ∙ append_assoc (marks front) (marks cell ++ mark piece.RightsCell ∷ []) found.0
     ∙ ap (λ l. marks front ++ l) (append_assoc (marks cell) (mark piece.RightsCell ∷ []) found.0) in
     ap key_row is
-    ∙ ap₂ (λ (p : RowPlace) (l : List ℕ). with_print p (name_in l) (fingerprint (print_in l))) (f.place_is cells) (f.cell_is cells)
+    ∙ ap₂ (λ (p : RowPlace) (l : List ℕ). with_print p (cell_comment l) (fingerprint (print_in l))) (f.place_is cells) (f.cell_is cells)
     ∙ ap₂ (λ (n t : List ℕ). with_print place n (fingerprint t)) (c.name_is found.0) (c.print_is found.0)
 
 is-print : (print : List ℕ) → length print ≡ 43 → fingerprint print ≡ Some print

@@ -82,8 +82,8 @@ groups_in rows = in_order files_before (map group_of (runs rows))
 -- ---- what the list has
 
 -- the rows of these keys, one after the other
-abbrev pub listed : List KeyGroupSeen → List KeyRowSeen
-listed groups = flat_map (λ (g : KeyGroupSeen). g.rows) groups
+abbrev pub grouped_rows : List KeyGroupSeen → List KeyRowSeen
+grouped_rows groups = flat_map (λ (g : KeyGroupSeen). g.rows) groups
 
 -- the row has this key
 abbrev pub has_key : List ℕ → KeyRowSeen → Bool

@@ -33,9 +33,9 @@ number_of digits = fold with_digit 0 digits
 -- ---- the cell of a key
 
 -- the comment at its front, as it stands there; nothing if there is none
-abbrev pub name_in : List ℕ → List ℕ
-name_in [] = []
-name_in (b ∷ rest) = if b == mark piece.Code then front_text rest else []
+abbrev pub cell_comment : List ℕ → List ℕ
+cell_comment [] = []
+cell_comment (b ∷ rest) = if b == mark piece.Code then front_text rest else []
 
 -- the text of the fingerprint, up to the next cell; nothing if there is none
 abbrev pub print_in : List ℕ → List ℕ
@@ -72,7 +72,7 @@ with_print place name (Some key) = Some (record { place = place; name = name; ke
 
 -- the row whose first piece stands in front of this, if it has a key
 abbrev pub key_row : List ℕ → Option KeyRowSeen
-key_row m = with_print (row_place m) (name_in (behind piece.KeyCell m)) (fingerprint (print_in (behind piece.KeyCell m)))
+key_row m = with_print (row_place m) (cell_comment (behind piece.KeyCell m)) (fingerprint (print_in (behind piece.KeyCell m)))
 
 -- the row that begins with this byte, if one does and has a key
 abbrev pub rows_at : ℕ → List ℕ → List KeyRowSeen

@@ -2,7 +2,7 @@
 //! is, and its fingerprint. So no memory is needed for them while files are read.
 
 ghost use Rattle.std.specs.Prelude.{◌≡◌, ◌++◌, IfOk, OnOk, map, option_map};
-ghost use Rattle.ssh_page.specs.KeyRows.{behind, fingerprint, front_text, key_row, name_in, number_of, print_in, row_place, row_seen, rows_at, rows_in};
+ghost use Rattle.ssh_page.specs.KeyRows.{behind, fingerprint, front_text, key_row, cell_comment, number_of, print_in, row_place, row_seen, rows_at, rows_in};
 ghost use Rattle.ssh_page.specs.Shown.{is_printable};
 
 use crate::found_rows::with_digit;
@@ -66,8 +66,8 @@ fn number_of(digits: &[u8]) -> u64
 }
 
 /// The comment at the front of the cell of a key.
-fn name_in(cell: &[u8]) -> &[u8]
-    ensures { result.now ≡ name_in cell.now }
+fn cell_comment(cell: &[u8]) -> &[u8]
+    ensures { result.now ≡ cell_comment cell.now }
 {
     match cell {
         [byte, more @ ..] if *byte == Piece::Code.mark() => front_text(more),
@@ -121,7 +121,7 @@ fn key_row(marks: &[u8]) -> Option<KeyRow<'_>>
     match fingerprint(print_in(cell)) {
         Some(key) => Some(KeyRow {
             place: row_place(marks),
-            name: name_in(cell),
+            name: cell_comment(cell),
             key,
         }),
         None => None,

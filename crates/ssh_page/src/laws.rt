@@ -25,7 +25,7 @@ ghost use Rattle.ssh_page.specs.Expanding.{delimiters, page, text_html, without_
 ghost use Rattle.ssh_page.specs.Files.{ClassesSeen, FileSeen, empty_section, fault_row, fault_section, file_row, register, section};
 ghost use Rattle.ssh_page.specs.FoundRows.{AreNumbers, HasPlaces, found_place};
 ghost use Rattle.ssh_page.specs.HostRecords.{bare_row, host_entry_row, revoked_row};
-ghost use Rattle.ssh_page.specs.KeyGroups.{AreOfOneKey, KeyGroupSeen, by_key, groups_in, listed};
+ghost use Rattle.ssh_page.specs.KeyGroups.{AreOfOneKey, KeyGroupSeen, by_key, groups_in, grouped_rows};
 ghost use Rattle.ssh_page.specs.KeyLists.{keys, keys_texts};
 ghost use Rattle.ssh_page.specs.KeyRows.{HasKeyRows, IsHeldPrint, IsPrint, KeyRowSeen, held_rows, row_of};
 ghost use Rattle.ssh_page.specs.Mending.{mend, mend_names};
@@ -223,7 +223,7 @@ fn keys_rule()
     ensures both { (a b : Document) (first second : List KeyRowSeen)
         → HasKeyRows a first → HasKeyRows b second → HasKeyRows (a & b) (first ++ second) }
     ensures once { (rows : List KeyRowSeen)
-        → IsPermutation rows (listed (groups_in (by_key rows))) }
+        → IsPermutation rows (grouped_rows (groups_in (by_key rows))) }
     ensures together { (rows : List KeyRowSeen)
         → AllByRecursion (λ (g : KeyGroupSeen). AreOfOneKey rows g.rows) (groups_in (by_key rows)) }
     ensures bytes { (l : LinesSeen) → AllByRecursion AreBytes l.names → IsOfBytes (keys l) }
