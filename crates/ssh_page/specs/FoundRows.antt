@@ -1,6 +1,6 @@
 -- The rows that have a finding, read off the marked text of the sections (this project's rule). A row begins with its classes: a
 -- piece and a number for each code. Then come the number of its file and its own.
-use Rattle.std.specs.Prelude.{◌≡◌, ◌++◌, ◌∷◌, [], ◌==◌, ◌&&◌, ◌||◌, ◌*◌, ◌-◌, ◌^◌, ◌<◌, ℕ, Bool, false, min, List, Option, Some, None, if◌then◌else◌}
+use Rattle.std.specs.Prelude.{◌≡◌, ◌++◌, ◌∷◌, [], ◌==◌, ◌&&◌, ◌||◌, ◌*◌, ◌-◌, ◌^◌, ◌<◌, ℕ, Bool, false, not, min, List, Option, Some, None, if◌then◌else◌}
 use Rattle.std.specs.List.{list_any}
 use Rattle.std.specs.Option.{option_to_list}
 use Rattle.ssh_findings.specs.CodeCounts.{sum_within}
@@ -50,6 +50,13 @@ after_class c r b = record {
 -- behind the number of the file
 abbrev pub after_file : RowRead → RowRead
 after_file r = record { part = Line; number = 0; has_code = r.has_code; file = r.number }
+
+-- a byte behind the numbers of a row and in front of the next, which changes nothing
+abbrev pub is_between : RowPart → ℕ → Bool
+is_between Outside b = not (b == mark piece.Row)
+is_between Classes b = false
+is_between File b = false
+is_between Line b = false
 
 -- after one more byte, by which number comes next
 abbrev pub read_in : RowPart → Code → RowRead → ℕ → RowRead

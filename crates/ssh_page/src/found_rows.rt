@@ -4,7 +4,7 @@
 ghost use Rattle.std.specs.Prelude.{◌≡◌, ◌++◌, IfOk, OnOk};
 ghost use Rattle.std.specs.Option.{option_to_list};
 ghost use Rattle.ssh_page.specs.Expanding.{is_mark};
-ghost use Rattle.ssh_page.specs.FoundRows.{after_class, after_file, no_row, part_behind, place_at, place_in, places_in, read_in, row_start, with_digit, with_number};
+ghost use Rattle.ssh_page.specs.FoundRows.{after_class, after_file, is_between, no_row, part_behind, place_at, place_in, places_in, read_in, row_start, with_digit, with_number};
 
 use crate::classes::code_number;
 use crate::piece::{FIRST_MARK, Piece};
@@ -122,6 +122,16 @@ fn after_file(read: RowRead) -> RowRead
     }
 }
 
+/// Whether a byte stands behind the numbers of a row and in front of the next.
+fn is_between(part: RowPart, byte: u8) -> bool
+    ensures { result ≡ is_between part byte }
+{
+    match part {
+        RowPart::Outside => byte != Piece::Row.mark(),
+        _ => false,
+    }
+}
+
 /// What was read after one more byte, in this part of a row.
 fn read_in(part: RowPart, code: Code, read: RowRead, byte: u8) -> RowRead
     ensures { result ≡ read_in part code read byte }
@@ -203,8 +213,11 @@ pub(crate) fn places_in(
     let mut places = Vec::new(alloc);
     let mut read = no_row();
     for byte in sections {
-        push_place(&mut places, read, *byte)?;
-        read = read_in(read.part, code, read, *byte);
+        // Most bytes stand behind the numbers of a row, and a file is read once for each code.
+        if !is_between(read.part, *byte) {
+            push_place(&mut places, read, *byte)?;
+            read = read_in(read.part, code, read, *byte);
+        }
     }
     Ok(places)
 }
