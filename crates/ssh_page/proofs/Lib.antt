@@ -14,6 +14,7 @@ pub mod FileLemmas
 pub mod ShapeLemmas
 pub mod TextLemmas
 pub mod FoundRowLemmas
+pub mod ExpandLemmas
 pub mod ScanLemmas
 pub mod StableLemmas
 pub mod RunLemmas

@@ -1,20 +1,134 @@
--- The places of a code, read byte by byte.
-use Rattle.std.proofs.Common.{◌≡◌, ◌∙◌, ◌+◌, ℕ, List, [], ◌∷◌, ◌++◌, drop, ap, ap₂, sym, append_assoc, append-nil}
+-- The rows of a marked text, found by their first piece.
+use Rattle.std.proofs.Common.{◌≡◌, ◌∙◌, ◌+◌, ◌-◌, ◌<◌, ◌==◌, ℕ, zero, suc, Bool, true, false, cond, List, [], ◌∷◌, ◌++◌, length, take, drop, slice_index, Some, None, refl, ap, sym, arith, append_assoc, append-nil, add-one, length-drop, take_all}
 use Rattle.std.specs.Option.{option_to_list}
+use Rattle.std.proofs.lemmas.Bool.{false_from_ne_true}
+use Rattle.memchr.specs.Find.{Nowhere, Passes, is_byte}
 use Rattle.ssh_findings.specs.declared.code.Code.{Code}
+use Rattle.ssh_page.specs.declared.found_rows.RowPart.TheVariants.{Outside}
 use Rattle.ssh_page.specs.declared.found_rows.RowRead.{RowRead}
+use Rattle.ssh_page.specs.declared.piece.Piece.{Piece}
+use Rattle.ssh_page.specs.declared.piece.Piece.TheVariants as piece
 use Rattle.ssh_page.specs.declared.record.RowPlace.{RowPlace}
-use Rattle.ssh_page.specs.FoundRows.{place_at, places_read, read_byte}
+use Rattle.ssh_page.specs.FoundRows.{behind_byte, after_piece, no_row, place_in, places_in, places_read, read_in, row_start}
+use Rattle.ssh_page.specs.KeyRows.{KeyRowSeen, behind, key_row, rows_in}
+use Rattle.ssh_page.specs.Pieces.{mark}
 
--- after one more byte
-pub places_next : (c : Code) (r s : RowRead) (sections : List ℕ) (i b : ℕ) (places more all : List RowPlace) → drop i sections ≡ b ∷ drop (i + 1) sections
-    → more ≡ places ++ option_to_list (place_at r b) → s ≡ read_byte c r b → places ++ places_read c r (drop i sections) ≡ all
-    → more ++ places_read c s (drop (i + 1) sections) ≡ all
-places_next c r s sections i b places more all at is next h =
-    ap₂ (λ m t. m ++ places_read c t (drop (i + 1) sections)) is next
-    ∙ append_assoc places (option_to_list (place_at r b)) (places_read c (read_byte c r b) (drop (i + 1) sections))
-    ∙ ap (λ l. places ++ places_read c r l) (sym at) ∙ h
+-- ---- the first such byte
 
--- after the last
-pub places_all : (c : Code) (r : RowRead) (rest : List ℕ) (places all : List RowPlace) → rest ≡ [] → places ++ places_read c r rest ≡ all → places ≡ all
-places_all c r rest places all none h = sym (append-nil places) ∙ ap (λ l. places ++ places_read c r l) (sym none) ∙ h
+-- none of the first bytes is such a byte
+abbrev NoByte : ℕ → List ℕ → ℕ → Type 0
+NoByte m text n = (i : ℕ) → i < n → (slice_index text i == m) ≡ false
+
+pub no_byte : (m : ℕ) (text : List ℕ) (n : ℕ) → Nowhere (Passes (is_byte m) text) 0 n → NoByte m text n
+no_byte m text n h = λ i lt. false_from_ne_true (slice_index text i == m) (h i (omega arith) lt)
+
+after-here : (m : ℕ) (text : List ℕ) (k : ℕ) → k < length text → NoByte m text k → (slice_index text k == m) ≡ true → behind_byte m text ≡ Some (drop (suc k) text)
+after-here m [] k lt clear is = absurd (omega arith)
+after-here m (b ∷ rest) zero lt clear is = rw is refl
+after-here m (b ∷ rest) (suc k) lt clear is =
+    rw (clear 0 (omega arith)) (after-here m rest k (omega arith) (λ i l. clear (suc i) (omega arith)) is)
+
+pub after_sliced : (m : ℕ) (text : List ℕ) (k : ℕ) → k < length text → NoByte m text k → (slice_index text k == m) ≡ true
+    → Some (take (length text - (k + 1)) (drop (k + 1) text)) ≡ behind_byte m text
+after_sliced m text k lt clear is =
+    rw (take_all (length text - (k + 1)) (drop (k + 1) text) (omega (arith, length-drop (k + 1) text)), add-one)
+    (sym (after-here m text k lt clear is))
+
+pub after_nowhere : (m : ℕ) (text : List ℕ) → NoByte m text (length text) → None ≡ behind_byte m text
+after_nowhere m [] clear = refl
+after_nowhere m (b ∷ rest) clear = rw (clear 0 (omega arith)) (after_nowhere m rest (λ i l. clear (suc i) (omega arith)))
+
+-- ---- pieces
+
+-- one text
+same-text : (a b : List ℕ) → Some a ≡ Some b → a ≡ b
+same-text a b e = cc
+
+pub behind_found : (p : Piece) (text rest : List ℕ) → after_piece p text ≡ Some rest → behind p text ≡ rest
+behind_found p [] rest h = cc
+behind_found p (b ∷ text) rest h = go (b == mark p) (λ e. behind_found p text rest e) h
+  where
+    go : (is : Bool) → (after_piece p text ≡ Some rest → behind p text ≡ rest)
+        → cond is (Some text) (after_piece p text) ≡ Some rest → cond is text (behind p text) ≡ rest
+    go true later e = cc
+    go false later e = later e
+
+pub behind_none : (p : Piece) (text : List ℕ) → after_piece p text ≡ None → behind p text ≡ []
+behind_none p [] h = refl
+behind_none p (b ∷ text) h = go (b == mark p) (λ e. behind_none p text e) h
+  where
+    go : (is : Bool) → (after_piece p text ≡ None → behind p text ≡ [])
+        → cond is (Some text) (after_piece p text) ≡ None → cond is text (behind p text) ≡ []
+    go true later e = cc
+    go false later e = later e
+
+-- ---- the places of a code
+
+-- outside of a row nothing was read
+pub outside_read : (c : Code) (r : RowRead) (text : List ℕ) → r.part ≡ Outside → places_read c r text ≡ places_in c text
+outside_read c r [] out = refl
+outside_read c r (b ∷ rest) out =
+    ap (λ part. option_to_list (place_in part r b) ++ places_read c (read_in part c r b) rest) out ∙ go (b == mark piece.Row) (outside_read c r rest out)
+  where
+    go : (is : Bool) → places_read c r rest ≡ places_in c rest → places_read c (cond is row_start r) rest ≡ places_read c (cond is row_start no_row) rest
+    go true later = refl
+    go false later = later
+
+places-found : (c : Code) (text row : List ℕ) → after_piece piece.Row text ≡ Some row → places_in c text ≡ places_read c row_start row
+places-found c [] row h = cc
+places-found c (b ∷ text) row h = go (b == mark piece.Row) (λ e. places-found c text row e) h
+  where
+    go : (is : Bool) → (after_piece piece.Row text ≡ Some row → places_in c text ≡ places_read c row_start row)
+        → cond is (Some text) (after_piece piece.Row text) ≡ Some row → places_read c (cond is row_start no_row) text ≡ places_read c row_start row
+    go true later e = ap (places_read c row_start) (same-text text row e)
+    go false later e = later e
+
+places-none : (c : Code) (text : List ℕ) → after_piece piece.Row text ≡ None → places_in c text ≡ []
+places-none c [] h = refl
+places-none c (b ∷ text) h = go (b == mark piece.Row) (λ e. places-none c text e) h
+  where
+    go : (is : Bool) → (after_piece piece.Row text ≡ None → places_in c text ≡ [])
+        → cond is (Some text) (after_piece piece.Row text) ≡ None → places_read c (cond is row_start no_row) text ≡ []
+    go true later e = cc
+    go false later e = later e
+
+-- behind one more row
+pub places_behind : (c : Code) (text row behind : List ℕ) (places more all : List RowPlace) → Some row ≡ after_piece piece.Row text
+    → more ++ places_in c behind ≡ places ++ places_read c row_start row → places ++ places_in c text ≡ all → more ++ places_in c behind ≡ all
+places_behind c text row behind places more all at pushed h = pushed ∙ ap (λ l. places ++ l) (sym (places-found c text row (sym at))) ∙ h
+
+-- behind the last row
+pub places_all : (c : Code) (text : List ℕ) (places all : List RowPlace) → None ≡ after_piece piece.Row text → places ++ places_in c text ≡ all → places ≡ all
+places_all c text places all none h = sym (append-nil places) ∙ ap (λ l. places ++ l) (sym (places-none c text (sym none))) ∙ h
+
+-- ---- the rows that have a key
+
+rows-found : (text row : List ℕ) → after_piece piece.Row text ≡ Some row → rows_in text ≡ option_to_list (key_row row) ++ rows_in row
+rows-found [] row h = cc
+rows-found (b ∷ text) row h = go (b == mark piece.Row) (λ e. rows-found text row e) h
+  where
+    go : (is : Bool) → (after_piece piece.Row text ≡ Some row → rows_in text ≡ option_to_list (key_row row) ++ rows_in row)
+        → cond is (Some text) (after_piece piece.Row text) ≡ Some row
+        → cond is (option_to_list (key_row text)) [] ++ rows_in text ≡ option_to_list (key_row row) ++ rows_in row
+    go true later e = ap (λ t. option_to_list (key_row t) ++ rows_in t) (same-text text row e)
+    go false later e = later e
+
+rows-none : (text : List ℕ) → after_piece piece.Row text ≡ None → rows_in text ≡ []
+rows-none [] h = refl
+rows-none (b ∷ text) h = go (b == mark piece.Row) (λ e. rows-none text e) h
+  where
+    go : (is : Bool) → (after_piece piece.Row text ≡ None → rows_in text ≡ [])
+        → cond is (Some text) (after_piece piece.Row text) ≡ None → cond is (option_to_list (key_row text)) [] ++ rows_in text ≡ []
+    go true later e = cc
+    go false later e = later e
+
+-- behind one more row
+pub rows_behind : (text row : List ℕ) (rows more all : List KeyRowSeen) → Some row ≡ after_piece piece.Row text
+    → more ≡ rows ++ option_to_list (key_row row) → rows ++ rows_in text ≡ all → more ++ rows_in row ≡ all
+rows_behind text row rows more all at pushed h =
+    ap (λ l. l ++ rows_in row) pushed ∙ append_assoc rows (option_to_list (key_row row)) (rows_in row)
+    ∙ ap (λ l. rows ++ l) (sym (rows-found text row (sym at))) ∙ h
+
+-- behind the last row
+pub rows_all : (text : List ℕ) (rows all : List KeyRowSeen) → None ≡ after_piece piece.Row text → rows ++ rows_in text ≡ all → rows ≡ all
+rows_all text rows all none h = sym (append-nil rows) ∙ ap (λ l. rows ++ l) (sym (rows-none text (sym none))) ∙ h

@@ -1,5 +1,5 @@
 -- The page of a marked text: each piece as its HTML, and each byte of text as itself or as its reference.
-use Rattle.std.specs.Prelude.{◌∷◌, [], ◌==◌, ◌||◌, ◌-◌, ℕ, Bool, not, nat_lt, List, codes, filter, if◌then◌else◌}
+use Rattle.std.specs.Prelude.{◌≡◌, ◌∷◌, [], ◌==◌, ◌||◌, ◌-◌, ℕ, Bool, not, nat_lt, List, codes, filter, if◌then◌else◌}
 use Rattle.std.specs.List.{flat_map}
 use Rattle.ssh_page.specs.Pieces.{markup_at}
 
@@ -22,6 +22,11 @@ mark_html c = if nat_lt c 128 then byte_html c else markup_at (c - 128)
 
 abbrev pub page : List ℕ → List ℕ
 page marks = flat_map mark_html marks
+
+-- each byte stands for itself
+abbrev pub IsPlain : List ℕ → Type 0
+IsPlain [] = Unit {0}
+IsPlain (c ∷ marks) = (mark_html c ≡ c ∷ []) × IsPlain marks
 
 -- ---- what is markup
 

@@ -10,12 +10,24 @@ use Rattle.ssh_findings.specs.declared.code.Code.{Code}
 use Rattle.ssh_page.specs.declared.found_rows.RowPart.{RowPart}
 use Rattle.ssh_page.specs.declared.found_rows.RowPart.TheVariants.{Outside, Classes, File, Line}
 use Rattle.ssh_page.specs.declared.found_rows.RowRead.{RowRead}
+use Rattle.ssh_page.specs.declared.piece.Piece.{Piece}
 use Rattle.ssh_page.specs.declared.piece.Piece.TheVariants as piece
 use Rattle.ssh_page.specs.declared.record.RowPlace.{RowPlace}
 use Rattle.ssh_page.specs.Classes.{code_number}
 use Rattle.ssh_page.specs.Documents.{Document, marks}
 use Rattle.ssh_page.specs.Expanding.{is_mark}
 use Rattle.ssh_page.specs.Pieces.{mark}
+
+-- ---- pieces
+
+-- what stands behind the first such byte; none if there is none
+abbrev pub behind_byte : ℕ → List ℕ → Option (List ℕ)
+behind_byte m [] = None
+behind_byte m (b ∷ rest) = if b == m then Some rest else behind_byte m rest
+
+-- what stands behind the first piece of this kind
+abbrev pub after_piece : Piece → List ℕ → Option (List ℕ)
+after_piece p marks = behind_byte (mark p) marks
 
 -- ---- what was read of a row
 
@@ -50,13 +62,6 @@ after_class c r b = record {
 -- behind the number of the file
 abbrev pub after_file : RowRead → RowRead
 after_file r = record { part = Line; number = 0; has_code = r.has_code; file = r.number }
-
--- a byte behind the numbers of a row and in front of the next, which changes nothing
-abbrev pub is_between : RowPart → ℕ → Bool
-is_between Outside b = not (b == mark piece.Row)
-is_between Classes b = false
-is_between File b = false
-is_between Line b = false
 
 -- after one more byte, by which number comes next
 abbrev pub read_in : RowPart → Code → RowRead → ℕ → RowRead

@@ -1,7 +1,7 @@
 //! The HTML of a marked text.
 
-ghost use Rattle.std.specs.Prelude.{◌≡◌, ◌++◌, ◌∷◌, ◌<◌, ◌≤◌, [], OnOk, length, take};
-ghost use Rattle.ssh_page.specs.Expanding.{byte_html, mark_html, page};
+ghost use Rattle.std.specs.Prelude.{◌≡◌, ◌++◌, ◌∷◌, ◌≤◌, [], IsTrue, OnOk, length, take};
+ghost use Rattle.ssh_page.specs.Expanding.{IsPlain, byte_html, mark_html, page};
 
 use crate::piece::{FIRST_MARK, markup};
 use arrayvec::ArrayVec;
@@ -45,8 +45,70 @@ pub fn expand(out: &mut Vec<u8>, marks: &[u8]) -> Result<(), AllocError>
     Ok(())
 }
 
+/// Whether a byte of a marked text stands for itself.
+fn is_plain(byte: u8) -> bool
+    ensures { IsTrue result → mark_html byte ≡ byte ∷ [] }
+{
+    match byte {
+        b'&' | b'<' | b'>' | b'"' | b'\'' => false,
+        _ => byte < FIRST_MARK,
+    }
+}
+
+/// How many bytes at the front stand for themselves.
+#[tactic(auto, using(crate::proofs::ExpandLemmas::plain_more))]
+fn plain_len(marks: &[u8]) -> usize
+    ensures plain { IsPlain (take result marks.now) }
+    ensures within { result ≤ length marks.now }
+{
+    let mut count = 0;
+    for byte in marks {
+        if !is_plain(*byte) {
+            return count;
+        }
+        count += 1;
+    }
+    count
+}
+
 /// Room for the HTML of some marks. Only that of the longest pieces does not fit.
 pub type HtmlRoom = ArrayVec<u8, 4096>;
+
+/// Appends the bytes at the front that stand for themselves, as many as there is room for, and
+/// returns how many these are.
+fn push_plain(out: &mut HtmlRoom, marks: &[u8]) -> usize
+    ensures html { out.new.items ≡ out.old.items ++ page (take result marks.now) }
+    ensures within { result ≤ length marks.now }
+{
+    let count = plain_len(marks).min(out.remaining_capacity());
+    match out.try_extend_from_slice(marks.split_at(count).0) {
+        Ok(()) => count,
+        Err(_) => 0,
+    }
+}
+
+/// Appends the HTML of the first mark, and returns 1, or 0 if there is no mark or no room.
+fn push_mark(out: &mut HtmlRoom, marks: &[u8]) -> usize
+    ensures html { out.new.items ≡ out.old.items ++ page (take result marks.now) }
+    ensures within { result ≤ length marks.now }
+{
+    match out.try_extend_from_slice(first_html(marks)) {
+        Ok(()) => marks.len().min(1),
+        Err(_) => 0,
+    }
+}
+
+/// Appends the HTML of bytes at the front that stand for themselves, or of the first mark, and returns
+/// how many these are: 0 if there is no mark or no room.
+fn expand_next(out: &mut HtmlRoom, marks: &[u8]) -> usize
+    ensures html { out.new.items ≡ out.old.items ++ page (take result marks.now) }
+    ensures within { result ≤ length marks.now }
+{
+    match push_plain(out, marks) {
+        0 => push_mark(out, marks),
+        count => count,
+    }
+}
 
 /// Appends the HTML of the marks at the front of a marked text, of as many as there is room for, and
 /// returns how many these are. Does not allocate.
@@ -55,14 +117,12 @@ pub fn expand_front(out: &mut HtmlRoom, marks: &[u8]) -> usize
     ensures within { result ≤ length marks.now }
 {
     let mut count = 0;
-    for byte in marks {
-        if out
-            .try_extend_from_slice(mark_html(*byte, &[*byte]))
-            .is_err()
-        {
+    while count < marks.len() {
+        let taken = expand_next(out, marks.split_at(count).1);
+        if taken == 0 {
             return count;
         }
-        count += 1;
+        count += taken;
     }
     count
 }

@@ -1,14 +1,15 @@
 //! The rows that have a finding, read off the marked text of the sections. So no memory is needed for
 //! them before they are asked for.
 
-ghost use Rattle.std.specs.Prelude.{◌≡◌, ◌++◌, IfOk, OnOk};
+ghost use Rattle.std.specs.Prelude.{◌≡◌, ◌<◌, ◌≤◌, ◌++◌, IfOk, IfSome, OnOk, length, option_map};
 ghost use Rattle.std.specs.Option.{option_to_list};
 ghost use Rattle.ssh_page.specs.Expanding.{is_mark};
-ghost use Rattle.ssh_page.specs.FoundRows.{after_class, after_file, is_between, no_row, part_behind, place_at, place_in, places_in, read_in, row_start, with_digit, with_number};
+ghost use Rattle.ssh_page.specs.FoundRows.{after_class, after_file, after_piece, no_row, part_behind, place_at, place_in, places_in, places_read, read_in, row_start, with_digit, with_number};
 
 use crate::classes::code_number;
 use crate::piece::{FIRST_MARK, Piece};
 use crate::record::RowPlace;
+use memchr::memchr;
 use ssh_findings::Code;
 use std::alloc::{AllocError, Global};
 
@@ -122,16 +123,6 @@ fn after_file(read: RowRead) -> RowRead
     }
 }
 
-/// Whether a byte stands behind the numbers of a row and in front of the next.
-fn is_between(part: RowPart, byte: u8) -> bool
-    ensures { result ≡ is_between part byte }
-{
-    match part {
-        RowPart::Outside => byte != Piece::Row.mark(),
-        _ => false,
-    }
-}
-
 /// What was read after one more byte, in this part of a row.
 fn read_in(part: RowPart, code: Code, read: RowRead, byte: u8) -> RowRead
     ensures { result ≡ read_in part code read byte }
@@ -201,6 +192,43 @@ fn push_place(places: &mut Vec<RowPlace>, read: RowRead, byte: u8) -> Result<(),
     }
 }
 
+/// What stands behind the first piece of this kind; none if there is none. Searches with `memchr`:
+/// most bytes are no piece of this kind, and a file is read once for each code.
+pub(crate) fn after_piece(marks: &[u8], piece: Piece) -> Option<&[u8]>
+    ensures behind { option_map (λ rest. rest.now) result ≡ after_piece piece marks.now }
+    ensures shorter { IfSome result (λ rest. length rest.now < length marks.now) }
+{
+    match memchr(piece.mark(), marks) {
+        Some(at) => Some(&marks[at + 1..]),
+        None => None,
+    }
+}
+
+/// Reads the numbers of a row from behind its first piece, and appends its place if it has the code.
+/// Returns what stands behind the numbers.
+#[tactic(auto, using(crate::proofs::ScanLemmas::outside_read))]
+fn push_row_place<'a>(
+    places: &mut Vec<RowPlace>,
+    code: Code,
+    row: &'a [u8],
+) -> Result<&'a [u8], AllocError>
+    ensures pushed { IfOk result (λ rest. places.new.items ++ places_in code rest.now
+        ≡ places.old.items ++ places_read code row_start row.entry.now) }
+    ensures shorter { IfOk result (λ rest. length rest.now ≤ length row.entry.now) }
+{
+    let mut read = row_start();
+    let mut rest = row;
+    while let [byte, more @ ..] = rest {
+        if read.part == RowPart::Outside {
+            return Ok(rest);
+        }
+        push_place(places, read, *byte)?;
+        read = read_in(read.part, code, read, *byte);
+        rest = more;
+    }
+    Ok(rest)
+}
+
 /// The places of the rows that have a finding of this code, in their order, of sections in marked
 /// text.
 pub(crate) fn places_in(
@@ -211,13 +239,9 @@ pub(crate) fn places_in(
     ensures { IfOk result (λ places. places.items ≡ places_in code sections.now) }
 {
     let mut places = Vec::new(alloc);
-    let mut read = no_row();
-    for byte in sections {
-        // Most bytes stand behind the numbers of a row, and a file is read once for each code.
-        if !is_between(read.part, *byte) {
-            push_place(&mut places, read, *byte)?;
-            read = read_in(read.part, code, read, *byte);
-        }
+    let mut rest = sections;
+    while let Some(row) = after_piece(rest, Piece::Row) {
+        rest = push_row_place(&mut places, code, row)?;
     }
     Ok(places)
 }

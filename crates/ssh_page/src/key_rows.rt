@@ -2,10 +2,11 @@
 //! is, and its fingerprint. So no memory is needed for them while files are read.
 
 ghost use Rattle.std.specs.Prelude.{◌≡◌, ◌++◌, IfOk, OnOk, map, option_map};
-ghost use Rattle.ssh_page.specs.KeyRows.{behind, fingerprint, front_text, key_row, cell_comment, number_of, print_in, row_place, row_seen, rows_at, rows_in};
+ghost use Rattle.std.specs.Option.{option_to_list};
+ghost use Rattle.ssh_page.specs.KeyRows.{behind, fingerprint, front_text, key_row, cell_comment, number_of, print_in, row_place, row_seen, rows_in};
 ghost use Rattle.ssh_page.specs.Shown.{is_printable};
 
-use crate::found_rows::with_digit;
+use crate::found_rows::{after_piece, with_digit};
 use crate::piece::Piece;
 use crate::record::RowPlace;
 use std::alloc::{AllocError, Global};
@@ -27,17 +28,14 @@ fn is_printable(byte: u8) -> bool
 }
 
 /// What stands behind the first piece of this kind; nothing if there is none.
+#[tactic(auto, using(crate::proofs::ScanLemmas::behind_found, crate::proofs::ScanLemmas::behind_none))]
 fn behind(marks: &[u8], piece: Piece) -> &[u8]
     ensures { result.now ≡ behind piece marks.now }
 {
-    let mut rest = marks;
-    while let [byte, more @ ..] = rest {
-        if *byte == piece.mark() {
-            return more;
-        }
-        rest = more;
+    match after_piece(marks, piece) {
+        Some(rest) => rest,
+        None => b"",
     }
-    b""
 }
 
 /// The printable text at the front.
@@ -128,15 +126,12 @@ fn key_row(marks: &[u8]) -> Option<KeyRow<'_>>
     }
 }
 
-/// Appends the row that begins with this byte, if one does and has a key.
-fn push_row<'a>(rows: &mut Vec<KeyRow<'a>>, byte: u8, marks: &'a [u8]) -> Result<(), AllocError>
+/// Appends the row whose first piece stands in front of this, if it has a key.
+fn push_row<'a>(rows: &mut Vec<KeyRow<'a>>, row: &'a [u8]) -> Result<(), AllocError>
     ensures { OnOk result (map row_seen rows.new.items
-        ≡ map row_seen rows.old.items ++ rows_at byte marks.now) }
+        ≡ map row_seen rows.old.items ++ option_to_list (key_row row.now)) }
 {
-    if byte != Piece::Row.mark() {
-        return Ok(());
-    }
-    match key_row(marks) {
+    match key_row(row) {
         Some(row) => {
             rows.push(row)?;
             Ok(())
@@ -151,9 +146,9 @@ pub(crate) fn rows_in(alloc: Global, sections: &[u8]) -> Result<Vec<KeyRow<'_>>,
 {
     let mut rows = Vec::new(alloc);
     let mut rest = sections;
-    while let [byte, more @ ..] = rest {
-        push_row(&mut rows, *byte, more)?;
-        rest = more;
+    while let Some(row) = after_piece(rest, Piece::Row) {
+        push_row(&mut rows, row)?;
+        rest = row;
     }
     Ok(rows)
 }

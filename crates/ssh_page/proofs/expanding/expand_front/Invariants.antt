@@ -1,7 +1,9 @@
-use Rattle.std.proofs.Common.{◌≡◌, ◌++◌, take}
-use Rattle.std.specs.List.{flat_map}
-use Rattle.ssh_page.specs.Expanding.{mark_html}
+use Rattle.std.proofs.Common.{◌≡◌, ◌≤◌, ◌-◌, ◌++◌, length, take}
+use Rattle.ssh_page.specs.Expanding.{page}
 use Rattle.ssh_page.proofs.expanding.expand_front.Given as goal
 
-abbrev pub invariant-loop-byte : goal.invariant-loop-byte
-invariant-loop-byte l = (l.out.items ≡ l.fn.out.items ++ flat_map mark_html (take l.byte-index l.marks)) × (l.count ≡ l.byte-index)
+abbrev pub invariant-loop-count : goal.invariant-loop-count
+invariant-loop-count l = (l.out.items ≡ l.initial.out.items ++ page (take l.count l.marks)) × (l.count ≤ length l.marks)
+
+abbrev pub decreases-loop-count : goal.decreases-loop-count
+decreases-loop-count l = length l.marks - l.count

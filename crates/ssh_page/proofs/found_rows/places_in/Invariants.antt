@@ -1,6 +1,9 @@
-use Rattle.std.proofs.Common.{◌≡◌, ◌++◌, drop}
-use Rattle.ssh_page.specs.FoundRows.{no_row, places_read}
+use Rattle.std.proofs.Common.{◌≡◌, ◌++◌, length}
+use Rattle.ssh_page.specs.FoundRows.{places_in}
 use Rattle.ssh_page.proofs.found_rows.places_in.Given as goal
 
-abbrev pub invariant-loop-byte : goal.invariant-loop-byte
-invariant-loop-byte l = l.places.items ++ places_read l.code l.read (drop l.byte-index l.sections) ≡ places_read l.code no_row l.sections
+abbrev pub invariant-loop-row : goal.invariant-loop-row
+invariant-loop-row l = l.places.items ++ places_in l.code l.rest ≡ places_in l.code l.sections
+
+abbrev pub decreases-loop-row : goal.decreases-loop-row
+decreases-loop-row l = length l.rest
