@@ -1,5 +1,5 @@
 -- The page of a marked text, front by front.
-use Rattle.std.proofs.Common.{◌≡◌, ◌∙◌, ◌+◌, ◌-◌, ◌≤◌, ◌<◌, ℕ, zero, suc, List, [], ◌∷◌, ◌++◌, length, take, drop, get_or, refl, ap, sym, subst, arith, append_assoc, add-one, add-suc, add-zero}
+use Rattle.std.proofs.Common.{◌≡◌, ◌∙◌, ◌+◌, ◌≤◌, ◌<◌, ℕ, zero, suc, List, [], ◌∷◌, ◌++◌, length, take, drop, get_or, refl, ap, sym, subst, arith, append_assoc, add-one, add-suc, add-zero}
 use Rattle.ssh_page.specs.Expanding.{IsPlain, mark_html, page}
 
 pub page-append : (a b : List ℕ) → page (a ++ b) ≡ page a ++ page b

@@ -1,5 +1,5 @@
 -- The page of a marked text: each piece as its HTML, and each byte of text as itself or as its reference.
-use Rattle.std.specs.Prelude.{◌≡◌, ◌∷◌, [], ◌==◌, ◌||◌, ◌-◌, ℕ, Bool, not, nat_lt, List, codes, filter, if◌then◌else◌}
+use Rattle.std.specs.Prelude.{◌≡◌, ◌<◌, ◌+◌, ◌∷◌, [], ◌==◌, ◌||◌, ◌-◌, ℕ, Bool, not, nat_lt, List, codes, filter, length, take, if◌then◌else◌}
 use Rattle.std.specs.List.{flat_map}
 use Rattle.ssh_page.specs.Pieces.{markup_at}
 
@@ -27,6 +27,10 @@ page marks = flat_map mark_html marks
 abbrev pub IsPlain : List ℕ → Type 0
 IsPlain [] = Unit {0}
 IsPlain (c ∷ marks) = (mark_html c ≡ c ∷ []) × IsPlain marks
+
+-- there is no mark, or a room of 4,096 bytes that holds this HTML has none for that of the first
+abbrev pub NoRoom : List ℕ → List ℕ → Type 0
+NoRoom html marks = 0 < length marks → 4096 < length html + length (page (take 1 marks))
 
 -- ---- what is markup
 

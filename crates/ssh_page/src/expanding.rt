@@ -1,7 +1,7 @@
 //! The HTML of a marked text.
 
-ghost use Rattle.std.specs.Prelude.{◌≡◌, ◌++◌, ◌∷◌, ◌≤◌, [], IsTrue, OnOk, length, take};
-ghost use Rattle.ssh_page.specs.Expanding.{IsPlain, byte_html, mark_html, page};
+ghost use Rattle.std.specs.Prelude.{◌≡◌, ◌++◌, ◌∷◌, ◌≤◌, [], IsTrue, OnOk, drop, length, take};
+ghost use Rattle.ssh_page.specs.Expanding.{IsPlain, NoRoom, byte_html, mark_html, page};
 
 use crate::piece::{FIRST_MARK, markup};
 use arrayvec::ArrayVec;
@@ -91,6 +91,7 @@ fn push_plain(out: &mut HtmlRoom, marks: &[u8]) -> usize
 fn push_mark(out: &mut HtmlRoom, marks: &[u8]) -> usize
     ensures html { out.new.items ≡ out.old.items ++ page (take result marks.now) }
     ensures within { result ≤ length marks.now }
+    ensures full { result ≡ 0 → NoRoom out.new.items marks.now }
 {
     match out.try_extend_from_slice(first_html(marks)) {
         Ok(()) => marks.len().min(1),
@@ -103,6 +104,7 @@ fn push_mark(out: &mut HtmlRoom, marks: &[u8]) -> usize
 fn expand_next(out: &mut HtmlRoom, marks: &[u8]) -> usize
     ensures html { out.new.items ≡ out.old.items ++ page (take result marks.now) }
     ensures within { result ≤ length marks.now }
+    ensures full { result ≡ 0 → NoRoom out.new.items marks.now }
 {
     match push_plain(out, marks) {
         0 => push_mark(out, marks),
@@ -115,6 +117,7 @@ fn expand_next(out: &mut HtmlRoom, marks: &[u8]) -> usize
 pub fn expand_front(out: &mut HtmlRoom, marks: &[u8]) -> usize
     ensures html { out.new.items ≡ out.old.items ++ page (take result marks.now) }
     ensures within { result ≤ length marks.now }
+    ensures full { NoRoom out.new.items (drop result marks.now) }
 {
     let mut count = 0;
     while count < marks.len() {

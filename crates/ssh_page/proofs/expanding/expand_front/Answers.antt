@@ -1,4 +1,4 @@
-use Rattle.std.proofs.Common.{◌∙◌, ◌+◌, ◌++◌, ap, append_assoc, arith, drop, length, length-drop, take}
+use Rattle.std.proofs.Common.{◌∙◌, ◌++◌, ap, append_assoc, arith, length, length-drop, take}
 use Rattle.ssh_page.specs.Expanding.{page}
 use Rattle.ssh_page.proofs.ExpandLemmas.{front_more}
 use Rattle.ssh_page.proofs.expanding.expand_front.Goals as goal
