@@ -260,20 +260,20 @@ static int permits(Span list, const Span *texts, int count) {
     return found;
 }
 
-/* ---- what a line says to the key that is sought */
+/* ---- what a line says to the key that is wanted */
 
 typedef struct {
     Span key, texts[2]; /* host and address of a login, or the name of a host */
     int count, by_authority;
-} Sought;
+} Wanted;
 
 typedef enum { PASSES, ADMITS, REVOKES, UNREADABLE } Verdict;
 
 static uint8_t blob[LINE_LIMIT];
 static long blob_len; /* of the last line that was looked at, or -1 */
 
-static int is_sought(long len, const Sought *sought) {
-    return same((Span){blob, (size_t)len}, sought->key);
+static int is_wanted(long len, const Wanted *wanted) {
+    return same((Span){blob, (size_t)len}, wanted->key);
 }
 
 /* ---- authorized_keys (sshd(8)) */
@@ -340,7 +340,7 @@ static int take_options(Span *line, Options *options) {
     return 0;
 }
 
-static Verdict login_line(Span line, const Sought *sought) {
+static Verdict login_line(Span line, const Wanted *wanted) {
     Options options = {0};
     Span rest = line;
     const Type *type = find_type(take_word(&rest));
@@ -351,8 +351,8 @@ static Verdict login_line(Span line, const Sought *sought) {
     }
     long len = blob_len = read_key(type, rest, blob);
     if (len < 0) return UNREADABLE;
-    if (!is_sought(len, sought) || options.is_authority != sought->by_authority) return PASSES;
-    return options.has_from && !permits(options.from, sought->texts, sought->count) ? PASSES : ADMITS;
+    if (!is_wanted(len, wanted) || options.is_authority != wanted->by_authority) return PASSES;
+    return options.has_from && !permits(options.from, wanted->texts, wanted->count) ? PASSES : ADMITS;
 }
 
 /* ---- known_hosts (sshd(8)) */
@@ -385,27 +385,27 @@ static int is_hash_of(Span name, const uint8_t *salt, const uint8_t *digest) {
     return memcmp(found, digest, DIGEST) == 0;
 }
 
-static Verdict revoked_line(Span line, const Sought *sought) {
+static Verdict revoked_line(Span line, const Wanted *wanted) {
     take_word(&line);
     take_word(&line);
     long len = decode(take_word(&line), blob);
     if (len < 0) return UNREADABLE;
-    return is_sought(len, sought) ? REVOKES : PASSES;
+    return is_wanted(len, wanted) ? REVOKES : PASSES;
 }
 
-static Verdict host_line(Span line, const Sought *sought) {
+static Verdict host_line(Span line, const Wanted *wanted) {
     uint8_t salt[SALT + 1], digest[DIGEST + 1];
     int is_marked = *line.at == '@';
     Span mark = is_marked ? take_word(&line) : (Span){NULL, 0};
-    if (is_marked && same(mark, REVOKED_MARK)) return revoked_line(line, sought);
+    if (is_marked && same(mark, REVOKED_MARK)) return revoked_line(line, wanted);
     if (is_marked && !same(mark, AUTHORITY_MARK)) return UNREADABLE;
     Span names = take_word(&line);
     if (is_hashed(names) ? !read_hashed(names, salt, digest) : has_empty_item(names)) return UNREADABLE;
     const Type *type = find_type(take_word(&line));
     long len = read_key(type, line, blob);
     if (len < 0) return UNREADABLE;
-    if (!is_sought(len, sought) || is_marked != sought->by_authority) return PASSES;
-    int is_named = is_hashed(names) ? is_hash_of(*sought->texts, salt, digest) : permits(names, sought->texts, 1);
+    if (!is_wanted(len, wanted) || is_marked != wanted->by_authority) return PASSES;
+    int is_named = is_hashed(names) ? is_hash_of(*wanted->texts, salt, digest) : permits(names, wanted->texts, 1);
     return is_named ? ADMITS : PASSES;
 }
 
@@ -414,7 +414,7 @@ static Verdict host_line(Span line, const Sought *sought) {
 typedef struct {
     const char *name;
     int words, by_authority, ends_at_found;
-    Verdict (*verdict)(Span, const Sought *);
+    Verdict (*verdict)(Span, const Wanted *);
 } Command;
 
 static const Command COMMANDS[] = {
@@ -428,16 +428,16 @@ static const Command *find_command(int words, char **argv) {
     return NULL;
 }
 
-static Verdict verdict_of(Span line, const Command *command, const Sought *sought) {
+static Verdict verdict_of(Span line, const Command *command, const Wanted *wanted) {
     if (line.len > LINE_LIMIT) return UNREADABLE;
     if (line.len && line.at[line.len - 1] == '\r') line.len--;
     skip_blanks(&line);
-    return line.len == 0 || *line.at == '#' ? PASSES : command->verdict(line, sought);
+    return line.len == 0 || *line.at == '#' ? PASSES : command->verdict(line, wanted);
 }
 
 /* Writes each line, after it was looked at. */
 static int copy_lines(Lines *lines, const Command *command) {
-    static const Sought nothing;
+    static const Wanted nothing;
     Span line;
     while (next_line(lines, &line)) {
         verdict_of(line, command, &nothing);
@@ -449,7 +449,7 @@ static int copy_lines(Lines *lines, const Command *command) {
 
 /* The names and what stands after them, of an entry whose names are plain. */
 static int take_plain_names(Span line, Span *marker, Span *names, Span *rest) {
-    static const Sought nothing;
+    static const Wanted nothing;
     if (line.len == 0 || *line.at == '#' || host_line(line, &nothing) == UNREADABLE) return 0;
     *rest = line;
     *marker = (Span){line.at, 0};
@@ -496,7 +496,7 @@ static int hash_lines(Lines *lines, FILE *salts) {
 
 /* The fingerprint of each line's key, and the file's own hash. */
 static int digest_lines(Lines *lines, const char *name) {
-    static const Sought nothing;
+    static const Wanted nothing;
     static const Command command = {"digest", 0, 0, 0, login_line};
     uint8_t digest[SHA256_DIGEST];
     Sha256 hash, whole;
@@ -540,12 +540,12 @@ static int digest_files(int count, char **names, Lines *lines) {
 }
 
 /* The first line that admits the key, and the first revocation. */
-static int find_lines(Lines *lines, const Command *command, const Sought *sought) {
+static int find_lines(Lines *lines, const Command *command, const Wanted *wanted) {
     unsigned long number = 0, first[UNREADABLE + 1] = {0}, unreadable = 0;
     Span line;
     while (!(command->ends_at_found && first[ADMITS]) && next_line(lines, &line)) {
         number++;
-        Verdict verdict = verdict_of(line, command, sought);
+        Verdict verdict = verdict_of(line, command, wanted);
         if (!first[verdict]) first[verdict] = number;
         if (verdict == UNREADABLE) unreadable++;
     }
@@ -561,11 +561,11 @@ static int find_in_files(int argc, char **argv, uint8_t *key, Lines *lines) {
     fill_digits();
     long len = decode(text_of(argv[2]), key);
     if (len < 0) return 2;
-    const Sought sought = {{key, (size_t)len}, {text_of(argv[3]), text_of(argv[4])}, 2, 0};
+    const Wanted wanted = {{key, (size_t)len}, {text_of(argv[3]), text_of(argv[4])}, 2, 0};
     for (int at = 5; at < argc; at++) {
         if (!open_next(lines, argv[at])) return 2;
         printf("%s: ", argv[at]);
-        find_lines(lines, COMMANDS, &sought);
+        find_lines(lines, COMMANDS, &wanted);
         close(lines->file);
     }
     return 0;
@@ -586,7 +586,7 @@ int main(int argc, char **argv) {
     if (lines.file >= 0 && argc == 3) return copy_lines(&lines, command);
     long len = argc == 3 ? -1 : decode(text_of(argv[3]), key);
     if (lines.file < 0 || len < 0) return 2;
-    Sought sought = {{key, (size_t)len}, {{NULL, 0}}, argc - 4, command->by_authority};
-    for (int i = 0; i < sought.count; i++) sought.texts[i] = text_of(argv[4 + i]);
-    return find_lines(&lines, command, &sought);
+    Wanted wanted = {{key, (size_t)len}, {{NULL, 0}}, argc - 4, command->by_authority};
+    for (int i = 0; i < wanted.count; i++) wanted.texts[i] = text_of(argv[4 + i]);
+    return find_lines(&lines, command, &wanted);
 }

@@ -214,7 +214,7 @@ def ask(subcommand, offer, trust, options):
     return lines
 
 
-def sought(offer):
+def wanted(offer):
     """What a line has to hold: the type and fingerprint of the key, or of the certificate's signer."""
     with tempfile.NamedTemporaryFile("w", suffix=".pub") as file:
         file.write(f"{offer.kind} {offer.text}\n")
@@ -227,7 +227,7 @@ def sought(offer):
 def say_denial(offer, refusal, code, said):
     print(f"{refusal}: {said} ({code})")
     if code == "N3":
-        print("looked for " + sought(offer))
+        print("looked for " + wanted(offer))
 
 
 def say_reasons(lines):

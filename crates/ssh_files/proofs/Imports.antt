@@ -6,8 +6,8 @@ pub use Rattle.ssh_files.specs.FilesInTurn.{Telling, TellsFile, TellsFiles}
 pub use Rattle.ssh_files.specs.Loading.{within_limit, LoadsPart, KeepsOthers, NoReadFailed, OneReadFailed, IsLeft, IsTooLong, Loads}
 pub use Rattle.ssh_files.specs.Parts.{cut_at_line, after_whole, has_line_end, is_line_end, top_line, cut_at_empty, after_part, part_at}
 pub use Rattle.ssh_files.specs.Samples.{empty_principals_read, hex_read, hex_refused, numbers_read, numbers_refused, salts_read, zone_texts, vouch_files_read, vouch_files_refused, parts_read, words_read}
-pub use Rattle.ssh_files.specs.Seekers.{is_sought, lines_rest, next_number, or_found, with_verdict, seeker_rest, cut_rest, field_rest, fields_after, fields_rest, from_place, in_field_rest, is_start, key_sought, triple_verdict, message_of, place_rest, rest_in_field, same_value, signature_sought, unless_fault, value_rest, value_with, both, second_rest}
-pub use Rattle.ssh_files.specs.Seeking.{sought_of, TellsOf, is_sought_among}
+pub use Rattle.ssh_files.specs.Seekers.{is_wanted, lines_rest, next_number, or_found, with_verdict, seeker_rest, cut_rest, field_rest, fields_after, fields_rest, from_place, in_field_rest, is_start, key_wanted, triple_verdict, message_of, place_rest, rest_in_field, same_value, signature_wanted, unless_fault, value_rest, value_with, both, second_rest}
+pub use Rattle.ssh_files.specs.Seeking.{wanted_of, TellsOf, is_wanted_among}
 pub use Rattle.ssh_files.specs.SourceState.{SourceState, IfTells, next_choice, standard_input, bytes_at, choosing, left_of, left_with, dash, Chosen, ReadsKnown, named_file, nothing}
 pub use Rattle.ssh_files.specs.Values.{hex_value, pair_value, pair_values, prepend, hex_bytes, is_digit, number_below}
 pub use Rattle.ssh_files.specs.VouchFile.{is_skipped, triple_of, cut_at_space, has_space, signed_of, vouched_from, with_signed}

@@ -1,5 +1,5 @@
 -- A vouch file that is read for one signature, byte by byte.
-use Rattle.ssh_files.proofs.Imports.{◌≡◌, ◌∙◌, ◌+◌, ◌==◌, ◌&&◌, ◌||◌, ℕ, suc, Bool, true, false, cond, ltb, List, [], ◌∷◌, length, take, drop, Option, Some, None, Result, Ok, Err, refl, sym, ap, arith, inl, inr, IfSome, is_some, option_and_then, option_map, Bor, onto_first, position_or_len, bytes_eq, cases_Bool, eqb-true, ne_eqb, lt-ltb, le-ltb, ltb-true, ltb-false, lines_of, Signed, is_same, cut_at_line, hex_bytes, hex_value, pair_value, pair_values, prepend, cut_at_space, has_space, is_skipped, signed_of, triple_of, is_space, cut_rest, field_rest, fields_after, fields_rest, from_place, in_field_rest, is_sought, is_start, key_sought, triple_verdict, lines_rest, message_of, next_number, or_found, place_rest, rest_in_field, same_value, signature_sought, unless_fault, value_rest, value_with, with_verdict, sought_of, Digits, Nothing, Dash, Field, FieldName, Key, Place, Start, Comment, Broken, InField}
+use Rattle.ssh_files.proofs.Imports.{◌≡◌, ◌∙◌, ◌+◌, ◌==◌, ◌&&◌, ◌||◌, ℕ, suc, Bool, true, false, cond, ltb, List, [], ◌∷◌, length, take, drop, Option, Some, None, Result, Ok, Err, refl, sym, ap, arith, inl, inr, IfSome, is_some, option_and_then, option_map, Bor, onto_first, position_or_len, bytes_eq, cases_Bool, eqb-true, ne_eqb, lt-ltb, le-ltb, ltb-true, ltb-false, lines_of, Signed, is_same, cut_at_line, hex_bytes, hex_value, pair_value, pair_values, prepend, cut_at_space, has_space, is_skipped, signed_of, triple_of, is_space, cut_rest, field_rest, fields_after, fields_rest, from_place, in_field_rest, is_wanted, is_start, key_wanted, triple_verdict, lines_rest, message_of, next_number, or_found, place_rest, rest_in_field, same_value, signature_wanted, unless_fault, value_rest, value_with, with_verdict, wanted_of, Digits, Nothing, Dash, Field, FieldName, Key, Place, Start, Comment, Broken, InField}
 use Rattle.ssh_files.specs.VouchFile.{three_fields}
 
 -- ---- digits
@@ -92,18 +92,18 @@ fields-byte d q x (y ∷ more) b text o word h =
     ap (option_and_then (λ c. option_and_then (λ same. fields_rest Nothing same y more c.1) (field_rest d q x c.0))) (cut-word b text word)
     ∙ on-cut d q x b (λ same after. fields_rest Nothing same y more after) o rest_in_field h (cut_at_space text)
 
-named-same : (sought : Option Signed) (name : FieldName) (text : List ℕ) (o : Option Field) → IfSome o (λ f. f.name ≡ name)
-    → option_and_then (λ f. fields_rest f.digits f.equal f.left.now (fields_after name sought) text) o ≡ option_and_then (λ f. in_field_rest sought f text) o
-named-same sought name text None h = refl
-named-same sought name text (Some f) h = ap (λ (n : FieldName). fields_rest f.digits f.equal f.left.now (fields_after n sought) text) (sym h)
+named-same : (wanted : Option Signed) (name : FieldName) (text : List ℕ) (o : Option Field) → IfSome o (λ f. f.name ≡ name)
+    → option_and_then (λ f. fields_rest f.digits f.equal f.left.now (fields_after name wanted) text) o ≡ option_and_then (λ f. in_field_rest wanted f text) o
+named-same wanted name text None h = refl
+named-same wanted name text (Some f) h = ap (λ (n : FieldName). fields_rest f.digits f.equal f.left.now (fields_after n wanted) text) (sym h)
 
 -- one more byte of a field
-pub field_byte : (sought : Option Signed) (field : Field) (b : ℕ) (text : List ℕ) (o : Option Field) → (b == 32) ≡ false → IfSome o (λ f. f.name ≡ field.name)
+pub field_byte : (wanted : Option Signed) (field : Field) (b : ℕ) (text : List ℕ) (o : Option Field) → (b == 32) ≡ false → IfSome o (λ f. f.name ≡ field.name)
     → ((u : List ℕ) → rest_in_field field (b ∷ u) ≡ option_and_then (λ f. rest_in_field f u) o)
-    → in_field_rest sought field (b ∷ text) ≡ option_and_then (λ f. in_field_rest sought f text) o
-field_byte sought field b text o word named h =
-    fields-byte field.digits field.equal field.left.now (fields_after field.name sought) b text o word h
-    ∙ named-same sought field.name text o named
+    → in_field_rest wanted field (b ∷ text) ≡ option_and_then (λ f. in_field_rest wanted f text) o
+field_byte wanted field b text o word named h =
+    fields-byte field.digits field.equal field.left.now (fields_after field.name wanted) b text o word h
+    ∙ named-same wanted field.name text o named
 
 -- a space after the last field
 pub space_last : (d : Digits) (q : Bool) (x text : List ℕ) → fields_rest d q x [] (32 ∷ text) ≡ None
@@ -166,27 +166,27 @@ fields-triple : (q : Bool) (k m g line : List ℕ) → fields_rest Nothing q k (
 unfolding three_fields
 fields-triple q k m g line = first-cut q k m g (cut_at_space line)
 
-sought-same : (sought : Option Signed) (o : Option Signed) → option_map (is_sought sought) o ≡ option_map (same_as (is_some sought) (key_sought sought) (message_of sought) (signature_sought sought)) o
-sought-same None None = refl
-sought-same (Some s) None = refl
-sought-same None (Some signed) = refl
-sought-same (Some s) (Some signed) = refl
+wanted-same : (wanted : Option Signed) (o : Option Signed) → option_map (is_wanted wanted) o ≡ option_map (same_as (is_some wanted) (key_wanted wanted) (message_of wanted) (signature_wanted wanted)) o
+wanted-same None None = refl
+wanted-same (Some s) None = refl
+wanted-same None (Some signed) = refl
+wanted-same (Some s) (Some signed) = refl
 
 -- a line from its first field on
-line-fields : (sought : Option Signed) (line : List ℕ) → is_skipped line ≡ false
-    → triple_verdict sought line ≡ fields_rest Nothing (is_some sought) (key_sought sought) (fields_after Key sought) line
-line-fields sought line kept =
+line-fields : (wanted : Option Signed) (line : List ℕ) → is_skipped line ≡ false
+    → triple_verdict wanted line ≡ fields_rest Nothing (is_some wanted) (key_wanted wanted) (fields_after Key wanted) line
+line-fields wanted line kept =
     rw kept
-    (sought-same sought (triple_of line)
-    ∙ sym (fields-triple (is_some sought) (key_sought sought) (message_of sought) (signature_sought sought) line))
+    (wanted-same wanted (triple_of line)
+    ∙ sym (fields-triple (is_some wanted) (key_wanted wanted) (message_of wanted) (signature_wanted wanted) line))
 
-given-same : (sought : Option (Bor Signed)) → is_some sought ≡ is_some (sought_of sought)
+given-same : (wanted : Option (Bor Signed)) → is_some wanted ≡ is_some (wanted_of wanted)
 given-same None = refl
 given-same (Some signed) = refl
 
-pub line_begun : (sought : Option (Bor Signed)) (field : Field) (line : List ℕ) → is_skipped line ≡ false → field.name ≡ Key → field.digits ≡ Nothing
-    → field.equal ≡ is_some sought → field.left.now ≡ key_sought (sought_of sought) → triple_verdict (sought_of sought) line ≡ in_field_rest (sought_of sought) field line
-line_begun sought field line kept name digits equal left = rw (name, digits, equal, left, given-same sought) (line-fields (sought_of sought) line kept)
+pub line_begun : (wanted : Option (Bor Signed)) (field : Field) (line : List ℕ) → is_skipped line ≡ false → field.name ≡ Key → field.digits ≡ Nothing
+    → field.equal ≡ is_some wanted → field.left.now ≡ key_wanted (wanted_of wanted) → triple_verdict (wanted_of wanted) line ≡ in_field_rest (wanted_of wanted) field line
+line_begun wanted field line kept name digits equal left = rw (name, digits, equal, left, given-same wanted) (line-fields (wanted_of wanted) line kept)
 
 -- ---- lines
 
@@ -201,40 +201,40 @@ onto-cut b (c ∷ cs) =
 lines-cut : (b : ℕ) (text : List ℕ) → (b == 10) ≡ false → lines_of (b ∷ text) ≡ (b ∷ (cut_at_line text).0) ∷ lines_of (cut_at_line text).1
 lines-cut b text h = rw h (onto-cut b text)
 
-cut-byte : (sought : Option Signed) (n : ℕ) (place : Place) (b : ℕ) (text : List ℕ) → (b == 10) ≡ false
-    → from_place sought n place (b ∷ text) ≡ cut_rest sought n place (b ∷ (cut_at_line text).0, (cut_at_line text).1)
-cut-byte sought n Start b text h = ap (lines_rest sought n) (lines-cut b text h)
-cut-byte sought n Comment b text h = rw h refl
-cut-byte sought n Broken b text h = refl
-cut-byte sought n (InField field) b text h = rw h refl
+cut-byte : (wanted : Option Signed) (n : ℕ) (place : Place) (b : ℕ) (text : List ℕ) → (b == 10) ≡ false
+    → from_place wanted n place (b ∷ text) ≡ cut_rest wanted n place (b ∷ (cut_at_line text).0, (cut_at_line text).1)
+cut-byte wanted n Start b text h = ap (lines_rest wanted n) (lines-cut b text h)
+cut-byte wanted n Comment b text h = rw h refl
+cut-byte wanted n Broken b text h = refl
+cut-byte wanted n (InField field) b text h = rw h refl
 
-cut-begun : (sought : Option Signed) (n : ℕ) (place : Place) (text : List ℕ) → is_start place ≡ false → from_place sought n place text ≡ cut_rest sought n place (cut_at_line text)
-cut-begun sought n Start text h = cc
-cut-begun sought n Comment text h = refl
-cut-begun sought n Broken text h = refl
-cut-begun sought n (InField field) text h = refl
+cut-begun : (wanted : Option Signed) (n : ℕ) (place : Place) (text : List ℕ) → is_start place ≡ false → from_place wanted n place text ≡ cut_rest wanted n place (cut_at_line text)
+cut-begun wanted n Start text h = cc
+cut-begun wanted n Comment text h = refl
+cut-begun wanted n Broken text h = refl
+cut-begun wanted n (InField field) text h = refl
 
 -- one more byte of a line
-pub byte_taken : (fault : Option ℕ) (found : Bool) (sought : Option Signed) (n : ℕ) (place next : Place) (b : ℕ) (text : List ℕ) → (b == 10) ≡ false → is_start next ≡ false
-    → ((u : List ℕ) → place_rest sought place (b ∷ u) ≡ place_rest sought next u)
-    → unless_fault fault found (from_place sought n place (b ∷ text)) ≡ unless_fault fault found (from_place sought n next text)
-byte_taken fault found sought n place next b text other begun h =
+pub byte_taken : (fault : Option ℕ) (found : Bool) (wanted : Option Signed) (n : ℕ) (place next : Place) (b : ℕ) (text : List ℕ) → (b == 10) ≡ false → is_start next ≡ false
+    → ((u : List ℕ) → place_rest wanted place (b ∷ u) ≡ place_rest wanted next u)
+    → unless_fault fault found (from_place wanted n place (b ∷ text)) ≡ unless_fault fault found (from_place wanted n next text)
+byte_taken fault found wanted n place next b text other begun h =
     ap (unless_fault fault found)
-    (cut-byte sought n place b text other
-    ∙ (ap (λ (v : Option Bool). with_verdict v n (lines_rest sought (next_number n) (lines_of (cut_at_line text).1))) (h (cut_at_line text).0)
-    ∙ sym (cut-begun sought n next text begun)))
+    (cut-byte wanted n place b text other
+    ∙ (ap (λ (v : Option Bool). with_verdict v n (lines_rest wanted (next_number n) (lines_of (cut_at_line text).1))) (h (cut_at_line text).0)
+    ∙ sym (cut-begun wanted n next text begun)))
 
-cut-lf : (sought : Option Signed) (n : ℕ) (place : Place) (text : List ℕ) → from_place sought n place (10 ∷ text) ≡ cut_rest sought n place ([], text)
-cut-lf sought n Start text = refl
-cut-lf sought n Comment text = refl
-cut-lf sought n Broken text = refl
-cut-lf sought n (InField field) text = refl
+cut-lf : (wanted : Option Signed) (n : ℕ) (place : Place) (text : List ℕ) → from_place wanted n place (10 ∷ text) ≡ cut_rest wanted n place ([], text)
+cut-lf wanted n Start text = refl
+cut-lf wanted n Comment text = refl
+cut-lf wanted n Broken text = refl
+cut-lf wanted n (InField field) text = refl
 
-cut-end : (sought : Option Signed) (n : ℕ) (place : Place) → from_place sought n place [] ≡ cut_rest sought n place ([], [])
-cut-end sought n Start = refl
-cut-end sought n Comment = refl
-cut-end sought n Broken = refl
-cut-end sought n (InField field) = refl
+cut-end : (wanted : Option Signed) (n : ℕ) (place : Place) → from_place wanted n place [] ≡ cut_rest wanted n place ([], [])
+cut-end wanted n Start = refl
+cut-end wanted n Comment = refl
+cut-end wanted n Broken = refl
+cut-end wanted n (InField field) = refl
 
 or-more : (found here : Bool) (rest : Result Bool ℕ) → or_found found (or_found here rest) ≡ or_found (found || here) rest
 or-more true here (Ok later) = refl
@@ -242,17 +242,17 @@ or-more false here (Ok later) = refl
 or-more found here (Err n) = refl
 
 -- the LF of a line that is a triple, or skipped
-pub line_taken : (found here : Bool) (sought : Option Signed) (n : ℕ) (place : Place) (text : List ℕ) → Some here ≡ place_rest sought place []
-    → or_found found (from_place sought n place (10 ∷ text)) ≡ or_found (found || here) (from_place sought (next_number n) Start text)
-line_taken found here sought n place text h =
-    ap (or_found found) (cut-lf sought n place text ∙ ap (λ (v : Option Bool). with_verdict v n (lines_rest sought (next_number n) (lines_of text))) (sym h))
-    ∙ or-more found here (lines_rest sought (next_number n) (lines_of text))
+pub line_taken : (found here : Bool) (wanted : Option Signed) (n : ℕ) (place : Place) (text : List ℕ) → Some here ≡ place_rest wanted place []
+    → or_found found (from_place wanted n place (10 ∷ text)) ≡ or_found (found || here) (from_place wanted (next_number n) Start text)
+line_taken found here wanted n place text h =
+    ap (or_found found) (cut-lf wanted n place text ∙ ap (λ (v : Option Bool). with_verdict v n (lines_rest wanted (next_number n) (lines_of text))) (sym h))
+    ∙ or-more found here (lines_rest wanted (next_number n) (lines_of text))
 
 -- the LF of another
-pub line_broken : (found : Bool) (sought : Option Signed) (n : ℕ) (place : Place) (text : List ℕ) → None ≡ place_rest sought place []
-    → or_found found (from_place sought n place (10 ∷ text)) ≡ Err n
-line_broken found sought n place text h =
-    ap (or_found found) (cut-lf sought n place text ∙ ap (λ (v : Option Bool). with_verdict v n (lines_rest sought (next_number n) (lines_of text))) (sym h))
+pub line_broken : (found : Bool) (wanted : Option Signed) (n : ℕ) (place : Place) (text : List ℕ) → None ≡ place_rest wanted place []
+    → or_found found (from_place wanted n place (10 ∷ text)) ≡ Err n
+line_broken found wanted n place text h =
+    ap (or_found found) (cut-lf wanted n place text ∙ ap (λ (v : Option Bool). with_verdict v n (lines_rest wanted (next_number n) (lines_of text))) (sym h))
 
 or-end : (found here : Bool) → or_found found (or_found here (Ok false)) ≡ Ok (found || here)
 or-end true here = refl
@@ -260,14 +260,14 @@ or-end false true = refl
 or-end false false = refl
 
 -- the end of the file
-pub file_taken : (found here : Bool) (sought : Option Signed) (n : ℕ) (place : Place) → Some here ≡ place_rest sought place []
-    → Ok (found || here) ≡ or_found found (from_place sought n place [])
-file_taken found here sought n place h =
-    sym (ap (or_found found) (cut-end sought n place ∙ ap (λ (v : Option Bool). with_verdict v n (Ok false)) (sym h)) ∙ or-end found here)
+pub file_taken : (found here : Bool) (wanted : Option Signed) (n : ℕ) (place : Place) → Some here ≡ place_rest wanted place []
+    → Ok (found || here) ≡ or_found found (from_place wanted n place [])
+file_taken found here wanted n place h =
+    sym (ap (or_found found) (cut-end wanted n place ∙ ap (λ (v : Option Bool). with_verdict v n (Ok false)) (sym h)) ∙ or-end found here)
 
-pub file_broken : (found : Bool) (sought : Option Signed) (n : ℕ) (place : Place) → None ≡ place_rest sought place []
-    → Err n ≡ or_found found (from_place sought n place [])
-file_broken found sought n place h = sym (ap (or_found found) (cut-end sought n place ∙ ap (λ (v : Option Bool). with_verdict v n (Ok false)) (sym h)))
+pub file_broken : (found : Bool) (wanted : Option Signed) (n : ℕ) (place : Place) → None ≡ place_rest wanted place []
+    → Err n ≡ or_found found (from_place wanted n place [])
+file_broken found wanted n place h = sym (ap (or_found found) (cut-end wanted n place ∙ ap (λ (v : Option Bool). with_verdict v n (Ok false)) (sym h)))
 
 pub none_found : (rest : Result Bool ℕ) → or_found false rest ≡ rest
 none_found (Ok later) = refl

@@ -1,37 +1,37 @@
 -- Which of the signatures that are looked for a whole vouch file vouches for.
-use Rattle.ssh_files.proofs.Imports.{◌≡◌, ◌∙◌, ◌+◌, ◌≤◌, ◌==◌, ◌++◌, ℕ, suc, Bool, true, false, cond, nat_lt, List, [], ◌∷◌, length, Option, Some, None, Result, Ok, Err, refl, sym, ap, subst, arith, inl, inr, option_map, onto_first, cases_Bool, ltb-false, append-nil, file_limit, lines_of, Signed, LoadsPart, within_limit, IfTells, SourceState, is_skipped, triple_of, vouched_from, with_signed, both, is_sought, lines_rest, next_number, or_found, with_verdict, TellsOf, is_sought_among, Found}
+use Rattle.ssh_files.proofs.Imports.{◌≡◌, ◌∙◌, ◌+◌, ◌≤◌, ◌==◌, ◌++◌, ℕ, suc, Bool, true, false, cond, nat_lt, List, [], ◌∷◌, length, Option, Some, None, Result, Ok, Err, refl, sym, ap, subst, arith, inl, inr, option_map, onto_first, cases_Bool, ltb-false, append-nil, file_limit, lines_of, Signed, LoadsPart, within_limit, IfTells, SourceState, is_skipped, triple_of, vouched_from, with_signed, both, is_wanted, lines_rest, next_number, or_found, with_verdict, TellsOf, is_wanted_among, Found}
 use Rattle.ssh_files.specs.VouchFile.{vouched_of}
 use Rattle.ssh_files.proofs.SeekerLemmas.{none_found}
 
 -- ---- one signature
 
 abbrev seek : Option Signed → Result (List Signed) ℕ → Result Bool ℕ
-seek sought (Ok vouched) = Ok (is_sought_among sought vouched)
-seek sought (Err n) = Err n
+seek wanted (Ok vouched) = Ok (is_wanted_among wanted vouched)
+seek wanted (Err n) = Err n
 
-none-among : (sought : Option Signed) → ◌≡◌ {A = Result Bool ℕ} (Ok false) (Ok (is_sought_among sought []))
+none-among : (wanted : Option Signed) → ◌≡◌ {A = Result Bool ℕ} (Ok false) (Ok (is_wanted_among wanted []))
 none-among None = refl
 none-among (Some signed) = refl
 
-one-more : (sought : Option Signed) (s : Signed) (n : ℕ) (r : Result (List Signed) ℕ) → or_found (is_sought sought s) (seek sought r) ≡ seek sought (with_signed (Some s) n r)
+one-more : (wanted : Option Signed) (s : Signed) (n : ℕ) (r : Result (List Signed) ℕ) → or_found (is_wanted wanted s) (seek wanted r) ≡ seek wanted (with_signed (Some s) n r)
 one-more None s n (Ok vouched) = refl
 one-more (Some signed) s n (Ok vouched) = refl
 one-more None s n (Err k) = refl
 one-more (Some signed) s n (Err k) = refl
 
-line-by : (sought : Option Signed) (n : ℕ) (signed : Option Signed) (r : Result (List Signed) ℕ)
-    → with_verdict (option_map (is_sought sought) signed) n (seek sought r) ≡ seek sought (with_signed signed n r)
-line-by sought n None r = refl
-line-by sought n (Some s) r = one-more sought s n r
+line-by : (wanted : Option Signed) (n : ℕ) (signed : Option Signed) (r : Result (List Signed) ℕ)
+    → with_verdict (option_map (is_wanted wanted) signed) n (seek wanted r) ≡ seek wanted (with_signed signed n r)
+line-by wanted n None r = refl
+line-by wanted n (Some s) r = one-more wanted s n r
 
-lines-seek : (sought : Option Signed) (n : ℕ) (lines : List (List ℕ)) → n + length lines ≤ 18446744073709551615 → lines_rest sought n lines ≡ seek sought (vouched_from n lines)
-lines-seek sought n [] few = none-among sought
-lines-seek sought n (line ∷ lines) few =
+lines-seek : (wanted : Option Signed) (n : ℕ) (lines : List (List ℕ)) → n + length lines ≤ 18446744073709551615 → lines_rest wanted n lines ≡ seek wanted (vouched_from n lines)
+lines-seek wanted n [] few = none-among wanted
+lines-seek wanted n (line ∷ lines) few =
     let next : next_number n ≡ n + 1 = omega (arith, few) in
-    let more = lines-seek sought (n + 1) lines (omega (arith, few)) in
+    let more = lines-seek wanted (n + 1) lines (omega (arith, few)) in
     elim (cases_Bool (is_skipped line)) [
-      | inl e ↦ rw (e, next) (none_found (lines_rest sought (n + 1) lines) ∙ more)
-      | inr e ↦ rw (e, next) (ap (with_verdict (option_map (is_sought sought) (triple_of line)) n) more ∙ line-by sought n (triple_of line) (vouched_from (n + 1) lines))
+      | inl e ↦ rw (e, next) (none_found (lines_rest wanted (n + 1) lines) ∙ more)
+      | inr e ↦ rw (e, next) (ap (with_verdict (option_map (is_wanted wanted) (triple_of line)) n) more ∙ line-by wanted n (triple_of line) (vouched_from (n + 1) lines))
     ]
 
 onto-few : (b : ℕ) (lines : List (List ℕ)) (k : ℕ) → length lines ≤ k → length (onto_first b lines) ≤ suc k
@@ -47,9 +47,9 @@ few-lines (c ∷ cs) =
       | inr e ↦ rw e (onto-few c (lines_of cs) (length cs) few)
     ]
 
-file-seek : (sought : Option Signed) (file : List ℕ) → length file ≤ file_limit → lines_rest sought 1 (lines_of file) ≡ seek sought (vouched_of file)
+file-seek : (wanted : Option Signed) (file : List ℕ) → length file ≤ file_limit → lines_rest wanted 1 (lines_of file) ≡ seek wanted (vouched_of file)
 unfolding vouched_of
-file-seek sought file short = let few = few-lines file in lines-seek sought 1 (lines_of file) (omega (arith, short, few))
+file-seek wanted file short = let few = few-lines file in lines-seek wanted 1 (lines_of file) (omega (arith, short, few))
 
 -- ---- two
 

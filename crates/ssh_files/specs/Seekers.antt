@@ -7,7 +7,7 @@ use Rattle.ssh_offers.specs.declared.claim.Signed.{Signed}
 use Rattle.ssh_offers.specs.Vouching.{is_same}
 use Rattle.ssh_files.specs.Parts.{cut_at_line}
 use Rattle.ssh_files.specs.Values.{hex_bytes, pair_values, prepend}
-use Rattle.ssh_files.specs.Seeking.{sought_of}
+use Rattle.ssh_files.specs.Seeking.{wanted_of}
 use Rattle.ssh_files.specs.VouchFile.{cut_at_space, has_space, is_skipped, triple_of}
 use Rattle.ssh_files.specs.declared.seeker.Digits.{Digits}
 use Rattle.ssh_files.specs.declared.seeker.Digits.TheVariants.{Nothing, Dash, Pairs, Half}
@@ -21,27 +21,27 @@ use Rattle.ssh_files.specs.declared.part.Found.{Found}
 
 -- ---- the signature that is looked for
 
-abbrev pub is_sought : Option Signed → Signed → Bool
-is_sought None signed = false
-is_sought (Some sought) signed = is_same signed sought
+abbrev pub is_wanted : Option Signed → Signed → Bool
+is_wanted None signed = false
+is_wanted (Some wanted) signed = is_same signed wanted
 
-abbrev pub key_sought : Option Signed → List ℕ
-key_sought None = []
-key_sought (Some sought) = sought.key
+abbrev pub key_wanted : Option Signed → List ℕ
+key_wanted None = []
+key_wanted (Some wanted) = wanted.key
 
 abbrev pub message_of : Option Signed → List ℕ
 message_of None = []
-message_of (Some sought) = sought.message
+message_of (Some wanted) = wanted.message
 
-abbrev pub signature_sought : Option Signed → List ℕ
-signature_sought None = []
-signature_sought (Some sought) = sought.signature
+abbrev pub signature_wanted : Option Signed → List ℕ
+signature_wanted None = []
+signature_wanted (Some wanted) = wanted.signature
 
 -- the fields after this one of the signature that is looked for
 abbrev pub fields_after : FieldName → Option Signed → List (List ℕ)
-fields_after Key sought = message_of sought ∷ signature_sought sought ∷ []
-fields_after Message sought = signature_sought sought ∷ []
-fields_after Signature sought = []
+fields_after Key wanted = message_of wanted ∷ signature_wanted wanted ∷ []
+fields_after Message wanted = signature_wanted wanted ∷ []
+fields_after Signature wanted = []
 
 -- ---- a field
 
@@ -84,18 +84,18 @@ fields_rest digits equal left (next ∷ more) text =
 
 -- whether a line is the triple that is looked for; none where it is neither a triple nor skipped
 abbrev pub triple_verdict : Option Signed → List ℕ → Option Bool
-triple_verdict sought line = if is_skipped line then Some false else option_map (is_sought sought) (triple_of line)
+triple_verdict wanted line = if is_skipped line then Some false else option_map (is_wanted wanted) (triple_of line)
 
 -- the same in a field that is followed by the others
 abbrev pub in_field_rest : Option Signed → Field → List ℕ → Option Bool
-in_field_rest sought field text = fields_rest field.digits field.equal field.left.now (fields_after field.name sought) text
+in_field_rest wanted field text = fields_rest field.digits field.equal field.left.now (fields_after field.name wanted) text
 
 -- the same for the rest of a line
 abbrev pub place_rest : Option Signed → Place → List ℕ → Option Bool
-place_rest sought Start text = triple_verdict sought text
-place_rest sought Comment text = Some false
-place_rest sought Broken text = None
-place_rest sought (InField field) text = in_field_rest sought field text
+place_rest wanted Start text = triple_verdict wanted text
+place_rest wanted Comment text = Some false
+place_rest wanted Broken text = None
+place_rest wanted (InField field) text = in_field_rest wanted field text
 
 abbrev pub is_start : Place → Bool
 is_start Start = true
@@ -120,17 +120,17 @@ with_verdict (Some found) n rest = or_found found rest
 
 -- whether one of the lines from line n on is the triple that is looked for, or the first that is not a triple
 abbrev pub lines_rest : Option Signed → ℕ → List (List ℕ) → Result Bool ℕ
-lines_rest sought n [] = Ok false
-lines_rest sought n (line ∷ lines) = with_verdict (triple_verdict sought line) n (lines_rest sought (next_number n) lines)
+lines_rest wanted n [] = Ok false
+lines_rest wanted n (line ∷ lines) = with_verdict (triple_verdict wanted line) n (lines_rest wanted (next_number n) lines)
 
 -- the same for the rest of line n, and the lines after it
 abbrev pub cut_rest : Option Signed → ℕ → Place → List ℕ × List ℕ → Result Bool ℕ
-cut_rest sought n place cut = with_verdict (place_rest sought place cut.0) n (lines_rest sought (next_number n) (lines_of cut.1))
+cut_rest wanted n place cut = with_verdict (place_rest wanted place cut.0) n (lines_rest wanted (next_number n) (lines_of cut.1))
 
 -- at the start of a line there may be no more line
 abbrev pub from_place : Option Signed → ℕ → Place → List ℕ → Result Bool ℕ
-from_place sought n Start text = lines_rest sought n (lines_of text)
-from_place sought n place text = cut_rest sought n place (cut_at_line text)
+from_place wanted n Start text = lines_rest wanted n (lines_of text)
+from_place wanted n place text = cut_rest wanted n place (cut_at_line text)
 
 -- a line that was not a triple is reported whatever follows
 abbrev pub unless_fault : Option ℕ → Bool → Result Bool ℕ → Result Bool ℕ
@@ -139,7 +139,7 @@ unless_fault None found rest = or_found found rest
 
 -- whether the file vouches for the signature, or its first line that is not a triple, where these bytes follow
 abbrev pub seeker_rest : Seeker → List ℕ → Result Bool ℕ
-seeker_rest x text = unless_fault x.fault x.found (from_place (sought_of x.sought) x.number x.place text)
+seeker_rest x text = unless_fault x.fault x.found (from_place (wanted_of x.wanted) x.number x.place text)
 
 -- the same for a search that may be left out: then nothing is found
 abbrev pub second_rest : Option Seeker → List ℕ → Result Bool ℕ

@@ -7,17 +7,17 @@ use Rattle.ssh_files.specs.declared.part.Found.{Found}
 use Rattle.ssh_files.specs.VouchFile.{vouched_of}
 
 -- the signature that is looked for, if any
-abbrev pub sought_of : Option (Bor Signed) → Option Signed
-sought_of sought = option_map (λ s. s.now) sought
+abbrev pub wanted_of : Option (Bor Signed) → Option Signed
+wanted_of wanted = option_map (λ s. s.now) wanted
 
 -- whether the signature that is looked for is among these; where there is none, nothing is found
-abbrev pub is_sought_among : Option Signed → List Signed → Bool
-is_sought_among None vouched = false
-is_sought_among (Some signed) vouched = is_vouched vouched signed
+abbrev pub is_wanted_among : Option Signed → List Signed → Bool
+is_wanted_among None vouched = false
+is_wanted_among (Some signed) vouched = is_vouched vouched signed
 
 -- which of two signatures are among these
 abbrev pub AreFound : Option Signed → Option Signed → List Signed → Found → Type 0
-AreFound first second vouched found = (found.first ≡ is_sought_among first vouched) × (found.second ≡ is_sought_among second vouched)
+AreFound first second vouched found = (found.first ≡ is_wanted_among first vouched) × (found.second ≡ is_wanted_among second vouched)
 
 -- The result for two signatures and a vouch file with these bytes: which of them it vouches for, or its first line that
 -- is not a triple.

@@ -7,7 +7,7 @@ ghost use Rattle.ssh_files.specs.Parts.{after_part, after_reading, after_whole, 
 ghost use Rattle.ssh_files.specs.Loading.{KeepsOthers, Loads, LoadsPart};
 ghost use Rattle.ssh_files.specs.declared.read.ReadError.TheVariants.{Memory};
 ghost use Rattle.ssh_files.specs.Seekers.{both, second_rest, seeker_rest};
-ghost use Rattle.ssh_files.specs.Seeking.{TellsOf, sought_of};
+ghost use Rattle.ssh_files.specs.Seeking.{TellsOf, wanted_of};
 
 use crate::files::Files;
 use crate::keeper::{Front, Hashing, Keeper, Nothing, TopLine};
@@ -241,7 +241,7 @@ pub fn seek_vouched<F: Files>(
     second: Option<&Signed>,
 ) -> Result<Result<Found, u64>, ReadError>
     ensures bytes { IfTells (F.source_state files.old) (λ s.
-        LoadsPart (TellsOf (sought_of first.entry) (sought_of second.entry)) name.now
+        LoadsPart (TellsOf (wanted_of first.entry) (wanted_of second.entry)) name.now
         (part_at s name.now) (after_part s name.now) s (F.source_state files.new) result) }
     ensures spare { result ≢ Err Memory }
 {

@@ -5,8 +5,8 @@ ghost use Rattle.ssh_offers.specs.declared.claim.Signed.{Signed as SignedValue};
 ghost use Rattle.ssh_text.specs.Text.{lines_of};
 ghost use Rattle.ssh_files.specs.declared.seeker.Digits.TheVariants.{Nothing};
 ghost use Rattle.ssh_files.specs.declared.seeker.FieldName.TheVariants.{Key};
-ghost use Rattle.ssh_files.specs.Seeking.{sought_of};
-ghost use Rattle.ssh_files.specs.Seekers.{in_field_rest, is_start, key_sought, lines_rest, message_of, place_rest, rest_in_field, same_value, seeker_rest, signature_sought, value_after, value_rest, value_with};
+ghost use Rattle.ssh_files.specs.Seeking.{wanted_of};
+ghost use Rattle.ssh_files.specs.Seekers.{in_field_rest, is_start, key_wanted, lines_rest, message_of, place_rest, rest_in_field, same_value, seeker_rest, signature_wanted, value_after, value_rest, value_with};
 ghost use Rattle.ssh_files.specs.Values.{hex_value, pair_value};
 
 use ssh_offers::Signed;
@@ -57,7 +57,7 @@ enum Place<'a> {
 /// A vouch file as far as it was read, searched for one signature, or only checked.
 #[derive(Clone, Copy)]
 pub struct Seeker<'a> {
-    sought: Option<&'a Signed>,
+    wanted: Option<&'a Signed>,
     /// The number of the current line, from 1.
     number: u64,
     place: Place<'a>,
@@ -149,58 +149,58 @@ fn field_end(field: Field<'_>) -> Option<bool>
     }
 }
 
-fn key_of(sought: Option<&Signed>) -> &[u8]
-    ensures { result.now ≡ key_sought (sought_of sought.entry) }
+fn key_of(wanted: Option<&Signed>) -> &[u8]
+    ensures { result.now ≡ key_wanted (wanted_of wanted.entry) }
 {
-    match sought {
+    match wanted {
         Some(signed) => signed.key.as_slice(),
         None => &[],
     }
 }
 
-fn message_of(sought: Option<&Signed>) -> &[u8]
-    ensures { result.now ≡ message_of (sought_of sought.entry) }
+fn message_of(wanted: Option<&Signed>) -> &[u8]
+    ensures { result.now ≡ message_of (wanted_of wanted.entry) }
 {
-    match sought {
+    match wanted {
         Some(signed) => signed.message.as_slice(),
         None => &[],
     }
 }
 
-fn signature_of(sought: Option<&Signed>) -> &[u8]
-    ensures { result.now ≡ signature_sought (sought_of sought.entry) }
+fn signature_of(wanted: Option<&Signed>) -> &[u8]
+    ensures { result.now ≡ signature_wanted (wanted_of wanted.entry) }
 {
-    match sought {
+    match wanted {
         Some(signed) => signed.signature.as_slice(),
         None => &[],
     }
 }
 
 /// The first field of a line.
-fn first_field(sought: Option<&Signed>) -> Field<'_>
+fn first_field(wanted: Option<&Signed>) -> Field<'_>
     ensures name { result.name ≡ Key }
     ensures digits { result.digits ≡ Nothing }
-    ensures equal { result.equal ≡ is_some sought.entry }
-    ensures left { result.left.now ≡ key_sought (sought_of sought.entry) }
+    ensures equal { result.equal ≡ is_some wanted.entry }
+    ensures left { result.left.now ≡ key_wanted (wanted_of wanted.entry) }
 {
     Field {
         name: FieldName::Key,
         digits: Digits::Nothing,
-        equal: sought.is_some(),
-        left: key_of(sought),
+        equal: wanted.is_some(),
+        left: key_of(wanted),
     }
 }
 
 /// The field after a space that ends this one; `None` where this one is not hexadecimal, or is the
 /// last.
-fn next_field<'a>(sought: Option<&'a Signed>, field: Field<'a>) -> Option<Field<'a>>
-    ensures { (text : List ℕ) → in_field_rest (sought_of sought.entry) field.entry (32 ∷ text)
-        ≡ option_and_then (λ f. in_field_rest (sought_of sought.entry) f text) result }
+fn next_field<'a>(wanted: Option<&'a Signed>, field: Field<'a>) -> Option<Field<'a>>
+    ensures { (text : List ℕ) → in_field_rest (wanted_of wanted.entry) field.entry (32 ∷ text)
+        ≡ option_and_then (λ f. in_field_rest (wanted_of wanted.entry) f text) result }
 {
     let equal = field_end(field)?;
     let (name, left) = match field.name {
-        FieldName::Key => (FieldName::Message, message_of(sought)),
-        FieldName::Message => (FieldName::Signature, signature_of(sought)),
+        FieldName::Key => (FieldName::Message, message_of(wanted)),
+        FieldName::Message => (FieldName::Signature, signature_of(wanted)),
         FieldName::Signature => return None,
     };
     Some(Field {
@@ -212,12 +212,12 @@ fn next_field<'a>(sought: Option<&'a Signed>, field: Field<'a>) -> Option<Field<
 }
 
 /// The field that is being read after one more character of the line.
-fn next_in_field<'a>(sought: Option<&'a Signed>, field: Field<'a>, byte: u8) -> Option<Field<'a>>
-    ensures { (text : List ℕ) → in_field_rest (sought_of sought.entry) field.entry (byte ∷ text)
-        ≡ option_and_then (λ f. in_field_rest (sought_of sought.entry) f text) result }
+fn next_in_field<'a>(wanted: Option<&'a Signed>, field: Field<'a>, byte: u8) -> Option<Field<'a>>
+    ensures { (text : List ℕ) → in_field_rest (wanted_of wanted.entry) field.entry (byte ∷ text)
+        ≡ option_and_then (λ f. in_field_rest (wanted_of wanted.entry) f text) result }
 {
     if byte == b' ' {
-        next_field(sought, field)
+        next_field(wanted, field)
     } else {
         add_to_field(field, byte)
     }
@@ -225,8 +225,8 @@ fn next_in_field<'a>(sought: Option<&'a Signed>, field: Field<'a>, byte: u8) -> 
 
 fn in_field(field: Option<Field<'_>>) -> Place<'_>
     ensures begun { is_start result ≡ false }
-    ensures rest { (sought : Option SignedValue) (text : List ℕ) → place_rest sought result text
-        ≡ option_and_then (λ f. in_field_rest sought f text) field.entry }
+    ensures rest { (wanted : Option SignedValue) (text : List ℕ) → place_rest wanted result text
+        ≡ option_and_then (λ f. in_field_rest wanted f text) field.entry }
 {
     match field {
         Some(field) => Place::InField(field),
@@ -235,15 +235,15 @@ fn in_field(field: Option<Field<'_>>) -> Place<'_>
 }
 
 /// How far a line is read after one more character.
-fn next_place<'a>(sought: Option<&'a Signed>, place: Place<'a>, byte: u8) -> Place<'a>
+fn next_place<'a>(wanted: Option<&'a Signed>, place: Place<'a>, byte: u8) -> Place<'a>
     ensures begun { is_start result ≡ false }
-    ensures rest { (text : List ℕ) → place_rest (sought_of sought.entry) place.entry (byte ∷ text)
-        ≡ place_rest (sought_of sought.entry) result text }
+    ensures rest { (text : List ℕ) → place_rest (wanted_of wanted.entry) place.entry (byte ∷ text)
+        ≡ place_rest (wanted_of wanted.entry) result text }
 {
     match place {
         Place::Start if byte == b'#' => Place::Comment,
-        Place::Start => in_field(next_in_field(sought, first_field(sought), byte)),
-        Place::InField(field) => in_field(next_in_field(sought, field, byte)),
+        Place::Start => in_field(next_in_field(wanted, first_field(wanted), byte)),
+        Place::InField(field) => in_field(next_in_field(wanted, field, byte)),
         Place::Comment => Place::Comment,
         Place::Broken => Place::Broken,
     }
@@ -252,7 +252,7 @@ fn next_place<'a>(sought: Option<&'a Signed>, place: Place<'a>, byte: u8) -> Pla
 /// Whether a line that ends here is the triple that is looked for; `None` where it is neither a
 /// triple nor skipped.
 fn place_end(place: Place<'_>) -> Option<bool>
-    ensures { (sought : Option SignedValue) → result ≡ place_rest sought place.entry [] }
+    ensures { (wanted : Option SignedValue) → result ≡ place_rest wanted place.entry [] }
 {
     match place {
         Place::Start | Place::Comment => Some(false),
@@ -266,12 +266,12 @@ fn place_end(place: Place<'_>) -> Option<bool>
 
 impl<'a> Seeker<'a> {
     /// Nothing is read so far. With `None` the file is only checked.
-    pub fn new(sought: Option<&'a Signed>) -> Seeker<'a>
+    pub fn new(wanted: Option<&'a Signed>) -> Seeker<'a>
         ensures { (file : List ℕ) → seeker_rest result file
-            ≡ lines_rest (sought_of sought.entry) 1 (lines_of file) }
+            ≡ lines_rest (wanted_of wanted.entry) 1 (lines_of file) }
     {
         Seeker {
-            sought,
+            wanted,
             number: 1,
             place: Place::Start,
             fault: None,
@@ -303,7 +303,7 @@ impl<'a> Seeker<'a> {
         if byte == b'\n' {
             self.end_line();
         } else {
-            self.place = next_place(self.sought, self.place, byte);
+            self.place = next_place(self.wanted, self.place, byte);
         }
     }
 

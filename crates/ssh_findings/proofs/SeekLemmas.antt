@@ -25,7 +25,7 @@ module _ {V : Type 0} where
   count_of ns ps e = ap length e ∙ length-map ps (λ (p : Slot V). number p.text.items)
 
   -- as far as a search has come, all later places are those of other texts, and the next is in the text's row
-  pub record Sought (rows : ℕ) (ns : List ℕ) (ps : List (Slot V)) (text : List ℕ) (next : ℕ) : Type 0 where
+  pub record Wanted (rows : ℕ) (ns : List ℕ) (ps : List (Slot V)) (text : List ℕ) (next : ℕ) : Type 0 where
     pub within : next ≤ length ps
     pub own : (i : ℕ) → next ≡ suc i → slice_index ns i % rows ≡ number text % rows
     pub after : (i : ℕ) (d : Slot V) → next ≤ i → i < length ps → bytes_eq (get_or ps i d).text.items text ≡ false
@@ -39,19 +39,19 @@ module _ {V : Type 0} where
       go true t = absurd (differ (ap (λ n. n % rows) (number_at ns ps i d e h ∙ ap number ((bytes_eq-Decides (get_or ps i d).text.items text).0 t))))
       go false t = refl
 
-  pub sought_first : (rows : ℕ) (ns : List ℕ) (ps : List (Slot V)) (text : List ℕ) (wanted next : ℕ) → ns ≡ map (λ p. number p.text.items) ps → wanted ≡ number text
-      → IsLast rows ns (wanted % rows) (length ns) next → Sought rows ns ps text next
-  sought_first rows ns ps text wanted next e same last = record {
+  pub wanted_first : (rows : ℕ) (ns : List ℕ) (ps : List (Slot V)) (text : List ℕ) (wanted next : ℕ) → ns ≡ map (λ p. number p.text.items) ps → wanted ≡ number text
+      → IsLast rows ns (wanted % rows) (length ns) next → Wanted rows ns ps text next
+  wanted_first rows ns ps text wanted next e same last = record {
     within = subst (λ n. next ≤ n) (count_of ns ps e) last.within;
     own = λ i f. last.own i f ∙ ap (λ n. n % rows) same;
     after = λ i d f g. unlike rows ns ps text i d e g
         (λ h. last.after i f (subst (λ n. i < n) (sym (count_of ns ps e)) g) (h ∙ ap (λ n. n % rows) (sym same)));
   }
 
-  pub sought_next : (rows : ℕ) (ns : List ℕ) (ps : List (Slot V)) (text : List ℕ) (at place next : ℕ) → ns ≡ map (λ p. number p.text.items) ps → at ≡ suc place
-      → Sought rows ns ps text at → ((d : Slot V) → bytes_eq (get_or ps place d).text.items text ≡ false)
-      → IsLast rows ns (slice_index ns place % rows) place next → Sought rows ns ps text next
-  sought_next rows ns ps text at place next e same s not-here last = record {
+  pub wanted_next : (rows : ℕ) (ns : List ℕ) (ps : List (Slot V)) (text : List ℕ) (at place next : ℕ) → ns ≡ map (λ p. number p.text.items) ps → at ≡ suc place
+      → Wanted rows ns ps text at → ((d : Slot V) → bytes_eq (get_or ps place d).text.items text ≡ false)
+      → IsLast rows ns (slice_index ns place % rows) place next → Wanted rows ns ps text next
+  wanted_next rows ns ps text at place next e same s not-here last = record {
     within = omega (arith, last.within, s.within, same);
     own = λ i f. last.own i f ∙ s.own place same;
     after = λ i d f g. go i d f g (i == place) refl;
@@ -73,12 +73,12 @@ module _ {V : Type 0} where
               beyond : (j : ℕ) → j ≢ place → place ≤ j → at ≤ j
               beyond j h k = omega (arith, h, k, same)
 
-  pub none_sought : (rows : ℕ) (ns : List ℕ) (ps : List (Slot V)) (text : List ℕ) (next : ℕ) → Sought rows ns ps text next → next ≤ 0 → value_in ps text ≡ None
-  none_sought rows ns ps text next s h = value_none ps text (λ i d g. s.after i d (omega (arith, h)) g)
+  pub none_wanted : (rows : ℕ) (ns : List ℕ) (ps : List (Slot V)) (text : List ℕ) (next : ℕ) → Wanted rows ns ps text next → next ≤ 0 → value_in ps text ≡ None
+  none_wanted rows ns ps text next s h = value_none ps text (λ i d g. s.after i d (omega (arith, h)) g)
 
-  pub place_sought : (rows : ℕ) (ns : List ℕ) (ps : List (Slot V)) (text : List ℕ) (at place : ℕ) → at ≡ suc place → Sought rows ns ps text at
+  pub place_wanted : (rows : ℕ) (ns : List ℕ) (ps : List (Slot V)) (text : List ℕ) (at place : ℕ) → at ≡ suc place → Wanted rows ns ps text at
       → ((d : Slot V) → bytes_eq (get_or ps place d).text.items text ≡ true) → IsPlace ps text place
-  place_sought rows ns ps text at place same s here = record {
+  place_wanted rows ns ps text at place same s here = record {
     within = omega (arith, same, s.within);
     own = λ d. (bytes_eq-Decides (get_or ps place d).text.items text).0 (here d);
     after = λ i d f g. s.after i d (omega (arith, same, f)) g;

@@ -95,21 +95,21 @@ pub(crate) fn fingerprint_read(
     Ok(text)
 }
 
-/// Whether OpenSSH reads the key with the blob that is sought for a key with this blob.
+/// Whether OpenSSH reads the key with the blob that is wanted for a key with this blob.
 #[tactic(auto, using(crate::proofs::KeyReadLemmas::same_read))]
 pub fn is_read_as_key(
     alloc: Global,
     key: &KeyView<'_>,
     blob: &[u8],
-    sought: &[u8],
+    wanted: &[u8],
 ) -> Result<bool, AllocError>
     requires { blob.now ≡ key_blob (key_of key.now) }
-    ensures { IfOk result (λ is. is ≡ bytes_eq (key_blob (key_read (key_of key.now))) sought.now) }
+    ensures { IfOk result (λ is. is ≡ bytes_eq (key_blob (key_read (key_of key.now))) wanted.now) }
 {
     if ends_in_nul(key) {
         let mut read = Vec::new(alloc);
         write_key(&view_read(key), &mut read)?;
-        return Ok(read.as_slice() == sought);
+        return Ok(read.as_slice() == wanted);
     }
-    Ok(blob == sought)
+    Ok(blob == wanted)
 }

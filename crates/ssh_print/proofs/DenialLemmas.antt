@@ -1,5 +1,5 @@
 -- If no line is reported beside a denial, every unreadable line holds another key where OpenSSH looks for one.
-use Rattle.ssh_print.proofs.Imports.{◌≡◌, ◌∙◌, ℕ, zero, suc, ◌+◌, Bool, true, false, ◌||◌, List, [], ◌∷◌, take, length, Option, Some, None, refl, sym, ap, subst, arith, lt-ltb, nat_lt, bytes_eq, slice_get, auth_line, AuthLine, Unreadable, LoginClaim, Signed, LineCause, Reason, login_verdict, lines_of, numbered, Cause, Denied, WhyPossible, HoldsAnother, held_blob, passed_reason, possible_lines, sought_blob, why_by_reason, why_held, why_held_key, with_line}
+use Rattle.ssh_print.proofs.Imports.{◌≡◌, ◌∙◌, ℕ, zero, suc, ◌+◌, Bool, true, false, ◌||◌, List, [], ◌∷◌, take, length, Option, Some, None, refl, sym, ap, subst, arith, lt-ltb, nat_lt, bytes_eq, slice_get, auth_line, AuthLine, Unreadable, LoginClaim, Signed, LineCause, Reason, login_verdict, lines_of, numbered, Cause, Denied, WhyPossible, HoldsAnother, held_blob, passed_reason, possible_lines, wanted_blob, why_by_reason, why_held, why_held_key, with_line}
 use Rattle.ssh_print.specs.declared.possible.WhyPossible.TheVariants as why
 use Rattle.ssh_print.specs.OtherLines.{login_other, possible_other}
 use Rattle.ssh_print.specs.PossibleLines.{why_possible}
@@ -14,10 +14,10 @@ another-by : (line blob : List ℕ) (held : Option (List ℕ)) → held_blob lin
 another-by line blob None is none = cc
 another-by line blob (Some held) is none = other-by line held blob (bytes_eq held blob) refl is none
 
-unread-another : (claim : LoginClaim) (line : List ℕ) (cause : LineCause) → auth_line line ≡ Unreadable cause → why_possible claim line ≡ None → HoldsAnother line (sought_blob claim)
+unread-another : (claim : LoginClaim) (line : List ℕ) (cause : LineCause) → auth_line line ≡ Unreadable cause → why_possible claim line ≡ None → HoldsAnother line (wanted_blob claim)
 unfolding why_possible
 unread-another claim line cause is none =
-    another-by line (sought_blob claim) (held_blob line) refl
+    another-by line (wanted_blob claim) (held_blob line) refl
     (sym (ap (λ (l : AuthLine). why_by_reason claim line (passed_reason (login_verdict claim l))) is) ∙ none)
 
 -- ---- the lines of a file
@@ -46,7 +46,7 @@ or-first true b h = h
 or-first false b h = refl
 
 pub unread_another : (claim : LoginClaim) (file line : List ℕ) (why : Cause) (reasons : List (ℕ × Reason)) (evidence : List Signed) (i : ℕ) (cause : LineCause)
-    → (login_other claim file (Denied why reasons evidence)).may_admit ≡ false → slice_get (lines_of file) i ≡ Some line → auth_line line ≡ Unreadable cause → HoldsAnother line (sought_blob claim)
+    → (login_other claim file (Denied why reasons evidence)).may_admit ≡ false → slice_get (lines_of file) i ≡ Some line → auth_line line ≡ Unreadable cause → HoldsAnother line (wanted_blob claim)
 unfolding login_other possible_other
 unread_another claim file line why reasons evidence i cause none at is =
     unread-another claim line cause is

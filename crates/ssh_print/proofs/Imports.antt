@@ -39,7 +39,7 @@ pub use Rattle.ssh_print.specs.KnownPossible.{known_possible_lines}
 pub use Rattle.ssh_print.specs.OtherLines.{possible_line}
 pub use Rattle.ssh_print.specs.PassedLines.{line_from, lines_after, passed_lines}
 pub use Rattle.ssh_print.specs.PassedOver.{line_counted, line_firm, revoking_line}
-pub use Rattle.ssh_print.specs.PossibleLines.{possible_lines, held_blob, passed_reason, sought_blob, why_by_reason, why_held, why_held_key, with_line}
+pub use Rattle.ssh_print.specs.PossibleLines.{possible_lines, held_blob, passed_reason, wanted_blob, why_by_reason, why_held, why_held_key, with_line}
 pub use Rattle.ssh_print.specs.Responses.{Response}
 pub use Rattle.ssh_print.specs.Samples.{absent_shown, texts_shown, rights_shown, decisions_shown, signatures_shown, faults_shown, wire_codes_shown, key_codes_shown, cert_codes_shown, body_codes_shown, line_codes_shown, reason_codes_shown, cause_codes_shown, fault_codes_shown}
 pub use Rattle.ssh_print.specs.ShowSamples.{keys_shown, words_shown}

@@ -29,7 +29,7 @@ use Rattle.ssh_print.specs.declared.asked_key.Admitting.{Admitting}
 use Rattle.ssh_print.specs.declared.possible.WhyPossible.TheVariants as why
 use Rattle.ssh_print.proofs.ScanLemmas.{all_is}
 
--- ---- another key is read as the one that is sought only where that is a security key
+-- ---- another key is read as the one that is wanted only where that is a security key
 
 -- the last byte of the length of the type name, with which a blob begins
 name-length : (key : PublicKey) → slice_get (key_blob key) 3 ≡ Some (length (key_name_of (kind_of key)))

@@ -63,23 +63,23 @@ abbrev pub indent : List ℕ
 indent = codes "    "
 
 -- the key that a line must hold: the last of the evidence, which is the signer's for a certificate
-abbrev pub sought_key : List Signed → List ℕ
-sought_key [] = []
-sought_key (key ∷ []) = key.key
-sought_key (key ∷ signer ∷ more) = signer.key
+abbrev pub wanted_key : List Signed → List ℕ
+wanted_key [] = []
+wanted_key (key ∷ []) = key.key
+wanted_key (key ∷ signer ∷ more) = signer.key
 
-abbrev pub sought_words : List Signed → List ℕ
-sought_words (key ∷ signer ∷ more) = codes "looked for the certificate's signer SHA256:"
-sought_words evidence = codes "looked for SHA256:"
+abbrev pub wanted_words : List Signed → List ℕ
+wanted_words (key ∷ signer ∷ more) = codes "looked for the certificate's signer SHA256:"
+wanted_words evidence = codes "looked for SHA256:"
 
 -- the fingerprint of that key
 abbrev pub fingerprint_line : List Signed → List ℕ
-fingerprint_line evidence = indent ++ sought_words evidence ++ digest_text_of (sha256 (sought_key evidence)) ++ codes "\n"
+fingerprint_line evidence = indent ++ wanted_words evidence ++ digest_text_of (sha256 (wanted_key evidence)) ++ codes "\n"
 
 -- if no line admits, the key that was looked for
-abbrev pub sought_line : Cause → List Signed → List ℕ
-sought_line NoLine evidence = fingerprint_line evidence
-sought_line why evidence = []
+abbrev pub wanted_line : Cause → List Signed → List ℕ
+wanted_line NoLine evidence = fingerprint_line evidence
+wanted_line why evidence = []
 
 -- ---- answers
 
@@ -94,7 +94,7 @@ fault_line e = codes "fault" ++ fault_codes e ++ codes "\n"
 
 abbrev pub decision_lines : Subject → Decision → List ℕ
 decision_lines who (Granted line rights reasons evidence) = granted_line who line evidence ++ rights_lines indent rights
-decision_lines who (Denied why reasons evidence) = denied_line who why ++ sought_line why evidence
+decision_lines who (Denied why reasons evidence) = denied_line who why ++ wanted_line why evidence
 
 -- the lines of an answer, or of the fault in its place
 abbrev pub answer_lines : Subject → Result Decision AuditError → List ℕ

@@ -20,7 +20,7 @@ use Rattle.ssh_findings.specs.declared.facts.Facts.{Facts}
 use Rattle.ssh_findings.specs.Facts.{facts_of}
 use Rattle.ssh_print.specs.Dates.{moment_text}
 use Rattle.ssh_print.specs.KnownPossible.{known_held_blob}
-use Rattle.ssh_print.specs.PossibleLines.{held_blob, sought_blob}
+use Rattle.ssh_print.specs.PossibleLines.{held_blob, wanted_blob}
 use Rattle.ssh_print.specs.Strings.{json_text}
 
 -- ---- values
@@ -49,11 +49,11 @@ moment_or_dash word None = codes "; " ++ word ++ codes " -"
 
 -- ---- a line that cannot be read
 
--- the key on the line where OpenSSH looks for one, as the fingerprint if it is another than the one that is sought
+-- the key on the line where OpenSSH looks for one, as the fingerprint if it is another than the one that is wanted
 abbrev pub held_value : Option (List ℕ) → List ℕ → List ℕ
-held_value None sought = []
-held_value (Some held) sought =
-    if bytes_eq held sought then codes "; it holds this key" else codes "; it holds SHA256:" ++ digest_text_of (sha256 held)
+held_value None wanted = []
+held_value (Some held) wanted =
+    if bytes_eq held wanted then codes "; it holds this key" else codes "; it holds SHA256:" ++ digest_text_of (sha256 held)
 
 -- ---- a certificate
 
@@ -117,7 +117,7 @@ entry_compared claim why line = []
 
 -- what was compared for the reason why a line does not admit a login
 unfoldable pub login_compared : LoginClaim → Reason → List ℕ → List ℕ
-login_compared claim (reason.Unreadable cause) line = held_value (held_blob line) (sought_blob claim)
+login_compared claim (reason.Unreadable cause) line = held_value (held_blob line) (wanted_blob claim)
 login_compared claim reason.NotYetValid line = start_compared claim.query.now claim.offer
 login_compared claim reason.NoLongerValid line = end_compared claim.query.now claim.offer
 login_compared claim reason.CertSourceBad line = certificate_source_compared claim.query.address claim.offer

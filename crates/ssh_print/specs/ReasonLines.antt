@@ -1,6 +1,6 @@
 -- The lines of an authorized_keys file by which OpenSSH may admit a key, told by the reasons of the decision on that file.
 -- Each line that does not admit has one, unless it has no key or another key; and OpenSSH reads another key as the one
--- that is sought only where that is a security key (this project's rule).
+-- that is wanted only where that is a security key (this project's rule).
 use Rattle.std.specs.Prelude.{ℕ, nat_lt, ◌&&◌, Bool, true, not, if◌then◌else◌, List, [], ◌∷◌, ◌++◌, length, is_some, Option, Some, None}
 use Rattle.ssh_text.specs.Text.{lines_of, numbered}
 use Rattle.ssh_keys.specs.PublicKey.{kind_of}

@@ -1,7 +1,7 @@
 //! The first lines of the printed answer of one trust file to `admits` or `trusts`.
 
 ghost use Rattle.std.specs.Prelude.{◌≡◌, ◌++◌, IfOk, OnOk};
-ghost use Rattle.ssh_print.specs.AnswerText.{answer_text, decision_lines, denied_line, denies, fault_line, fingerprint_line, good_signatures, granted_line, grants, sentence, sought_key, sought_line, sought_words, owner_word};
+ghost use Rattle.ssh_print.specs.AnswerText.{answer_text, decision_lines, denied_line, denies, fault_line, fingerprint_line, good_signatures, granted_line, grants, sentence, wanted_key, wanted_line, wanted_words, owner_word};
 
 use crate::codes::{cause_code, cause_codes, fault_codes};
 use crate::decision_text::rights_lines;
@@ -74,8 +74,8 @@ pub fn sentence(code: &str) -> &'static str
 
 /// The blob of the key that a line must hold. For a certificate it is its signer's, which comes
 /// second in the evidence.
-fn sought_key(evidence: &[Signed]) -> &[u8]
-    ensures { result.now ≡ sought_key evidence.now }
+fn wanted_key(evidence: &[Signed]) -> &[u8]
+    ensures { result.now ≡ wanted_key evidence.now }
 {
     match evidence {
         [] => &[],
@@ -85,8 +85,8 @@ fn sought_key(evidence: &[Signed]) -> &[u8]
 }
 
 /// The words in front of its fingerprint.
-fn sought_words(evidence: &[Signed]) -> &'static [u8]
-    ensures { result.now ≡ sought_words evidence.now }
+fn wanted_words(evidence: &[Signed]) -> &'static [u8]
+    ensures { result.now ≡ wanted_words evidence.now }
 {
     match evidence {
         [_, _, ..] => b"looked for the certificate's signer SHA256:",
@@ -102,22 +102,22 @@ fn push_fingerprint_line(
 ) -> Result<(), AllocError>
     ensures { OnOk result (out.new.items ≡ out.old.items ++ fingerprint_line evidence.now) }
 {
-    let digest = Sha256::digest(sought_key(evidence));
+    let digest = Sha256::digest(wanted_key(evidence));
     let text = digest_text(alloc, &digest)?;
     out.extend_from_slice(INDENT)?;
-    out.extend_from_slice(sought_words(evidence))?;
+    out.extend_from_slice(wanted_words(evidence))?;
     out.extend_from_slice(&text)?;
     out.push(b'\n')?;
     Ok(())
 }
 
-fn push_sought_line(
+fn push_wanted_line(
     alloc: Global,
     out: &mut Vec<u8>,
     why: Cause,
     evidence: &[Signed],
 ) -> Result<(), AllocError>
-    ensures { OnOk result (out.new.items ≡ out.old.items ++ sought_line why evidence.now) }
+    ensures { OnOk result (out.new.items ≡ out.old.items ++ wanted_line why evidence.now) }
 {
     match why {
         Cause::NoLine => push_fingerprint_line(alloc, out, evidence),
@@ -182,7 +182,7 @@ fn push_decision_lines(
         }
         Decision::Denied { why, evidence, .. } => {
             push_denied_line(alloc, out, who, *why)?;
-            push_sought_line(alloc, out, *why, evidence.as_slice())?;
+            push_wanted_line(alloc, out, *why, evidence.as_slice())?;
         }
     }
     Ok(())

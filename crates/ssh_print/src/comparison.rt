@@ -132,12 +132,12 @@ fn push_held_key(
     alloc: Global,
     out: &mut Vec<u8>,
     held: &[u8],
-    sought: &[u8],
+    wanted: &[u8],
 ) -> Result<(), AllocError>
     ensures { OnOk result (out.new.items
-        ≡ out.old.items ++ held_value (Some held.now) sought.now) }
+        ≡ out.old.items ++ held_value (Some held.now) wanted.now) }
 {
-    if held == sought {
+    if held == wanted {
         out.extend_from_slice(b"; it holds this key")?;
     } else {
         let digest = Sha256::digest(held);
@@ -153,14 +153,14 @@ fn push_held(
     alloc: Global,
     out: &mut Vec<u8>,
     held: &Option<Vec<u8>>,
-    sought: &[u8],
+    wanted: &[u8],
 ) -> Result<(), AllocError>
     ensures { OnOk result (out.new.items
-        ≡ out.old.items ++ held_value (option_map (λ v. v.items) held.now) sought.now) }
+        ≡ out.old.items ++ held_value (option_map (λ v. v.items) held.now) wanted.now) }
 {
     match held {
         None => Ok(()),
-        Some(held) => push_held_key(alloc, out, held, sought),
+        Some(held) => push_held_key(alloc, out, held, wanted),
     }
 }
 

@@ -29,7 +29,7 @@ ghost use Rattle.ssh_print.specs.FingerprintKeys.{IsFirstHeld, found_key};
 ghost use Rattle.ssh_print.specs.HostOther.{claim_without_port, without_port};
 ghost use Rattle.ssh_print.specs.OtherLines.{login_other};
 ghost use Rattle.ssh_print.specs.PassedLines.{ComeInOrder, Compared, line_from, passed_line, passed_lines};
-ghost use Rattle.ssh_print.specs.PossibleLines.{sought_blob};
+ghost use Rattle.ssh_print.specs.PossibleLines.{wanted_blob};
 ghost use Rattle.ssh_print.specs.Samples.{AbsentShown, BodyCodesShown, CauseCodesShown, CertCodesShown, DecisionsShown, FaultCodesShown, FaultsShown, KeyCodesShown, LineCodesShown, ReasonCodesShown, RightsShown, SignaturesShown, TextsShown, WireCodesShown};
 ghost use Rattle.ssh_print.specs.ShowSamples.{KeysShown, WordsShown};
 ghost use Rattle.ssh_print.specs.ExplainSamples.{LinesShown, RowsAreFound, UnknownShown};
@@ -57,7 +57,7 @@ fn unread_rule()
         → (login_other claim file (Denied why reasons evidence)).may_admit ≡ false
         → slice_get (lines_of file) i ≡ Some line
         → auth_line line ≡ Unreadable cause
-        → HoldsAnother line (sought_blob claim) }
+        → HoldsAnother line (wanted_blob claim) }
 {}
 
 /// A host's key that is looked for under the name without its port makes the claim that was read, but

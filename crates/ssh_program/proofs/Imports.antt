@@ -56,7 +56,7 @@ pub use Rattle.ssh_print.specs.FingerprintKeys.{found_key, offered_key}
 pub use Rattle.ssh_print.specs.Explaining.{code_line, first_unknown_code}
 pub use Rattle.ssh_print.specs.Offering.{Offered, shown_offer_in}
 pub use Rattle.ssh_print.specs.OtherLines.{nothing_other, login_other, other_login}
-pub use Rattle.ssh_print.specs.PossibleLines.{sought_blob}
+pub use Rattle.ssh_print.specs.PossibleLines.{wanted_blob}
 pub use Rattle.ssh_print.specs.ResponseView.{response}
 pub use Rattle.ssh_print.specs.Responses.{no_file_response, Response, refused_response, value_response, usage_response, decision_response, vouch_response, decision_status}
 pub use Rattle.ssh_print.specs.Showing.{Shows, IsFaultOfShow, show_fault_response, show_kind}
@@ -101,7 +101,7 @@ pub use Rattle.ssh_program.specs.OfferTexts.{OptionTexts, RespondsByTexts, IsTex
 pub use Rattle.ssh_program.specs.OfferTextsView.{texts_seen, TakesText, TakesTexts, taken_seen}
 pub use Rattle.ssh_program.specs.Requests.{RespondsBy, Answers, request_words, source_of, Responds, RespondsIn}
 pub use Rattle.ssh_program.specs.Responding.{SignsDigest, SignsBody, SignsClaim, SignsMessage, SignsVouched, SignsAgain, SignsOne}
-pub use Rattle.ssh_program.specs.NeededVouches.{RestsOn, VouchAlike, first_resting, second_resting, kept_by, evidence_found, sought_in}
+pub use Rattle.ssh_program.specs.NeededVouches.{RestsOn, VouchAlike, first_resting, second_resting, kept_by, evidence_found, wanted_in}
 pub use Rattle.ssh_program.specs.ReviewForms.{FormAsked, as_lines, as_page, form_of, form_seen, review_form}
 pub use Rattle.ssh_program.specs.Rewritings.{new_file, rewrite_over, RewritesFile, rewrite_kind, IsTrustFault, Rewrites, new_response}
 pub use Rattle.ssh_program.specs.Samples.{host_values_in_order, login_asks_more, login_is_spelled, login_values_in_order, show_kinds, texts_of_files}

@@ -1,15 +1,15 @@
 -- For a decision, the evidence that was found in a vouch file is as good as all that the file lists.
-use Rattle.ssh_program.proofs.Imports.{◌≡◌, ◌∙◌, ◌≤◌, ℕ, Bool, true, false, List, [], ◌∷◌, length, take, drop, Option, Some, None, Result, Ok, Err, refl, ap, subst, arith, inl, inr, IfOk, min, IfTells, SourceState, bytes_at, AreFound, TellsOf, Found, AuditError, Memory, Signed, is_vouched, any-has, has-any, decision_response, GivesOrMemory, OfClaim, RefusesAs, if_short, Deciding, answer_over, or_vouch_fault, AuditsFile, AuditsVouched, RestsOn, VouchAlike, first_resting, kept_by, evidence_found, second_resting, sought_in}
+use Rattle.ssh_program.proofs.Imports.{◌≡◌, ◌∙◌, ◌≤◌, ℕ, Bool, true, false, List, [], ◌∷◌, length, take, drop, Option, Some, None, Result, Ok, Err, refl, ap, subst, arith, inl, inr, IfOk, min, IfTells, SourceState, bytes_at, AreFound, TellsOf, Found, AuditError, Memory, Signed, is_vouched, any-has, has-any, decision_response, GivesOrMemory, OfClaim, RefusesAs, if_short, Deciding, answer_over, or_vouch_fault, AuditsFile, AuditsVouched, RestsOn, VouchAlike, first_resting, kept_by, evidence_found, second_resting, wanted_in}
 use Rattle.ssh_files.specs.VouchFile.{vouched_of}
 use Rattle.ssh_print.specs.Responses.{Response as Shown}
 use Rattle.ssh_program.proofs.ChosenLemmas.{reported}
 
 -- ---- what is looked for
 
-pub sought_given : (rests : Result (List Signed) AuditError) (evidence : List Signed) → RefusesAs rests (Ok evidence) → OfClaim rests (λ e. GivesOrMemory (Ok e) (Ok evidence))
-    → evidence ≡ sought_in rests
-sought_given (Ok e) evidence refused gives = cc
-sought_given (Err x) evidence refused gives = cc
+pub wanted_given : (rests : Result (List Signed) AuditError) (evidence : List Signed) → RefusesAs rests (Ok evidence) → OfClaim rests (λ e. GivesOrMemory (Ok e) (Ok evidence))
+    → evidence ≡ wanted_in rests
+wanted_given (Ok e) evidence refused gives = cc
+wanted_given (Err x) evidence refused gives = cc
 
 not-given : (e : List Signed) (x : AuditError) → (x ≡ Memory → ⊥) → GivesOrMemory (Ok e) (Err x) → ⊥
 not-given e x other gives =
@@ -18,9 +18,9 @@ not-given e x other gives =
       | inr same ↦ cc
     ]
 
-pub sought_none : (rests : Result (List Signed) AuditError) (x : AuditError) → (x ≡ Memory → ⊥) → OfClaim rests (λ e. GivesOrMemory (Ok e) (Err x)) → [] ≡ sought_in rests
-sought_none (Ok e) x other gives = absurd (not-given e x other gives)
-sought_none (Err y) x other gives = refl
+pub wanted_none : (rests : Result (List Signed) AuditError) (x : AuditError) → (x ≡ Memory → ⊥) → OfClaim rests (λ e. GivesOrMemory (Ok e) (Err x)) → [] ≡ wanted_in rests
+wanted_none (Ok e) x other gives = absurd (not-given e x other gives)
+wanted_none (Err y) x other gives = refl
 
 -- ---- what is found
 
@@ -72,7 +72,7 @@ kept-alike (x ∷ y ∷ z ∷ more) vouched found few are = absurd (omega (arith
 -- ---- what is answered
 
 answer-same : (by : Deciding) (rests : Result (List Signed) AuditError) (vouched : List Signed) (found : Found) (file : Option (List ℕ)) → RestsOn by rests
-    → AreFound (first_resting (sought_in rests)) (second_resting (sought_in rests)) vouched found → answer_over by (evidence_found (sought_in rests) found) file ≡ answer_over by vouched file
+    → AreFound (first_resting (wanted_in rests)) (second_resting (wanted_in rests)) vouched found → answer_over by (evidence_found (wanted_in rests) found) file ≡ answer_over by vouched file
 answer-same (Err e) rests vouched found None rest are = refl
 answer-same (Err e) rests vouched found (Some file) rest are = refl
 answer-same (Ok decision) (Err e) vouched found file rest are = absurd rest
@@ -86,15 +86,15 @@ audits-all by name a b s u r same (inl h) = inl (h.0, h.1 ∙ ap decision_respon
 audits-all by name a b s u r same (inr h) = inr h
 
 audits-reported : (by : Deciding) (rests : Result (List Signed) AuditError) (found : Found) (name file : List ℕ) (s : SourceState) (u : Option SourceState) (r : Shown) → RestsOn by rests
-    → TellsOf (first_resting (sought_in rests)) (second_resting (sought_in rests)) file (Ok found)
-    → AuditsFile by name (evidence_found (sought_in rests) found) s u r → AuditsVouched by name (or_vouch_fault (vouched_of file)) s u r
+    → TellsOf (first_resting (wanted_in rests)) (second_resting (wanted_in rests)) file (Ok found)
+    → AuditsFile by name (evidence_found (wanted_in rests) found) s u r → AuditsVouched by name (or_vouch_fault (vouched_of file)) s u r
 audits-reported by rests found name file s u r rest (vouched, read, are) h =
     rw read
-    (audits-all by name (evidence_found (sought_in rests) found) vouched s u r (answer-same by rests vouched found (bytes_at s name) rest are) h)
+    (audits-all by name (evidence_found (wanted_in rests) found) vouched s u r (answer-same by rests vouched found (bytes_at s name) rest are) h)
 
 -- the response by what was found is the one by all that is vouched for
 pub found_responds : {R E : Type 0} (view : R → Shown) (by : Deciding) (rests : Result (List Signed) AuditError) (evidence kept : List Signed) (found : Found) (name file : List ℕ)
-    (o u : Option SourceState) (res : Result R E) → RestsOn by rests → evidence ≡ sought_in rests → kept ≡ evidence_found evidence found
+    (o u : Option SourceState) (res : Result R E) → RestsOn by rests → evidence ≡ wanted_in rests → kept ≡ evidence_found evidence found
     → TellsOf (first_resting evidence) (second_resting evidence) file (Ok found)
     → IfTells o (λ s. IfOk res (λ r. AuditsFile by name kept s u (view r)))
     → IfTells o (λ s. IfOk res (λ r. AuditsVouched by name (or_vouch_fault (vouched_of file)) s u (view r)))

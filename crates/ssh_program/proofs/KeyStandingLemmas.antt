@@ -25,7 +25,7 @@ use Rattle.ssh_program.specs.FingerprintValues.{fingerprint_bytes, is_fingerprin
 use Rattle.ssh_program.specs.KeyRuns.{AsksOfFiles, EachFile, SomeFile}
 use Rattle.ssh_program.specs.FileReviews.{kind_name}
 use Rattle.ssh_program.specs.KeySeeking.{KeyLines, SeeksBy, SeeksKey, SeeksKeyOfFile, fingerprint_or_fault, key_review_of, key_status, key_lines_before, or_key_fault, spelled_fingerprint, telling_key_review, with_key_file}
-use Rattle.ssh_program.specs.KeyStanding.{AsksForKey, GivesBy, StandsIn, StandsNowhereIn, KeyNowhere, KeySought, KeyStanding, PrintsKeyReviews, whole_for_key}
+use Rattle.ssh_program.specs.KeyStanding.{AsksForKey, GivesBy, StandsIn, StandsNowhereIn, KeyNowhere, KeyWanted, KeyStanding, PrintsKeyReviews, whole_for_key}
 use Rattle.ssh_program.specs.OfferPrints.{offer_print}
 use Rattle.ssh_program.specs.ReviewZones.{review_rule}
 use Rattle.ssh_program.specs.ReviewForms.{FormAsked}
@@ -40,57 +40,57 @@ use Rattle.ssh_program.proofs.SpelledBytes.{ok-same}
 -- ---- one file
 
 -- a review without a fault is that of all lines
-without-fault : (kind : ReviewKind) (sought : List ℕ) (asked : ReviewAsked) (name file : List ℕ) → (key_review_of sought kind asked.form asked.asking name file).file.fault ≡ None
-    → key_review_of sought kind asked.form asked.asking name file ≡ whole_for_key kind sought asked.form asked.asking name file
-without-fault Auth sought asked name file h = by (nat_lt file_limit (length file)) h
+without-fault : (kind : ReviewKind) (wanted : List ℕ) (asked : ReviewAsked) (name file : List ℕ) → (key_review_of wanted kind asked.form asked.asking name file).file.fault ≡ None
+    → key_review_of wanted kind asked.form asked.asking name file ≡ whole_for_key kind wanted asked.form asked.asking name file
+without-fault Auth wanted asked name file h = by (nat_lt file_limit (length file)) h
   where
-    by : (long : Bool) → (cond long (key_fault_review asked.form name TooLong) (whole_key_review sought asked.form asked.asking name file)).file.fault ≡ None
-        → cond long (key_fault_review asked.form name TooLong) (whole_key_review sought asked.form asked.asking name file) ≡ whole_key_review sought asked.form asked.asking name file
+    by : (long : Bool) → (cond long (key_fault_review asked.form name TooLong) (whole_key_review wanted asked.form asked.asking name file)).file.fault ≡ None
+        → cond long (key_fault_review asked.form name TooLong) (whole_key_review wanted asked.form asked.asking name file) ≡ whole_key_review wanted asked.form asked.asking name file
     by true e = cc
     by false e = refl
-without-fault Known sought asked name file h = by (nat_lt file_limit (length file)) h
+without-fault Known wanted asked name file h = by (nat_lt file_limit (length file)) h
   where
-    by : (long : Bool) → (cond long (key_fault_review asked.form name TooLong) (host_whole_key_review sought asked.form asked.asking name file)).file.fault ≡ None
-        → cond long (key_fault_review asked.form name TooLong) (host_whole_key_review sought asked.form asked.asking name file) ≡ host_whole_key_review sought asked.form asked.asking name file
+    by : (long : Bool) → (cond long (key_fault_review asked.form name TooLong) (host_whole_key_review wanted asked.form asked.asking name file)).file.fault ≡ None
+        → cond long (key_fault_review asked.form name TooLong) (host_whole_key_review wanted asked.form asked.asking name file) ≡ host_whole_key_review wanted asked.form asked.asking name file
     by true e = cc
     by false e = refl
 
 -- the file is there, and its review for the key is this
-record SoughtAs (asked : ReviewAsked) (sought : List ℕ) (name : NameSeen) (s : SourceState) (first : KeyReview) : Type 0 where
+record WantedAs (asked : ReviewAsked) (wanted : List ℕ) (name : NameSeen) (s : SourceState) (first : KeyReview) : Type 0 where
   file : List ℕ
   there : bytes_at s name.path ≡ Some file
-  is : first ≡ whole_for_key asked.kind sought asked.form asked.asking (file_head asked.form name) file
+  is : first ≡ whole_for_key asked.kind wanted asked.form asked.asking (file_head asked.form name) file
 
 abbrev telling : ReviewAsked → List ℕ → Telling NameSeen KeyReview
-telling asked sought = telling_key_review sought asked.kind asked.form asked.asking
+telling asked wanted = telling_key_review wanted asked.kind asked.form asked.asking
 
 no-fault : (fault : FileFault) → ◌≡◌ {A = Option FileFault} (Some fault) None → ⊥
 no-fault fault e = cc
 
-sought-by : (asked : ReviewAsked) (sought : List ℕ) (name : NameSeen) (s : SourceState) (first : KeyReview) (given : Result (List ℕ) UnreadCause) → given_at s name.path ≡ given
-    → first ≡ (telling asked sought).of_bytes name given → first.file.fault ≡ None → SoughtAs asked sought name s first
-sought-by asked sought name s first (Err cause) there is whole = absurd (no-fault (Unread cause) (sym (ap (λ (x : KeyReview). x.file.fault) is) ∙ whole))
-sought-by asked sought name s first (Ok file) there is whole = record {
+wanted-by : (asked : ReviewAsked) (wanted : List ℕ) (name : NameSeen) (s : SourceState) (first : KeyReview) (given : Result (List ℕ) UnreadCause) → given_at s name.path ≡ given
+    → first ≡ (telling asked wanted).of_bytes name given → first.file.fault ≡ None → WantedAs asked wanted name s first
+wanted-by asked wanted name s first (Err cause) there is whole = absurd (no-fault (Unread cause) (sym (ap (λ (x : KeyReview). x.file.fault) is) ∙ whole))
+wanted-by asked wanted name s first (Ok file) there is whole = record {
   file = file;
   there = ap bytes_of there;
-  is = is ∙ without-fault asked.kind sought asked (file_head asked.form name) file (sym (ap (λ (x : KeyReview). x.file.fault) is) ∙ whole);
+  is = is ∙ without-fault asked.kind wanted asked (file_head asked.form name) file (sym (ap (λ (x : KeyReview). x.file.fault) is) ∙ whole);
 }
 
-sought-as : (asked : ReviewAsked) (sought : List ℕ) (name : NameSeen) (s m : SourceState) (first : KeyReview) → TellsFile (telling asked sought) name s (Some m) first → first.file.fault ≡ None → SoughtAs asked sought name s first
-sought-as asked sought name s m first (keeps, inl (failed, is)) whole = absurd (no-fault (Unread (cause_at s name.path)) (sym (ap (λ (x : KeyReview). x.file.fault) is) ∙ whole))
-sought-as asked sought name s m first (keeps, inr (unfailed, end, is)) whole = sought-by asked sought name s first (given_at s name.path) refl is whole
+wanted-as : (asked : ReviewAsked) (wanted : List ℕ) (name : NameSeen) (s m : SourceState) (first : KeyReview) → TellsFile (telling asked wanted) name s (Some m) first → first.file.fault ≡ None → WantedAs asked wanted name s first
+wanted-as asked wanted name s m first (keeps, inl (failed, is)) whole = absurd (no-fault (Unread (cause_at s name.path)) (sym (ap (λ (x : KeyReview). x.file.fault) is) ∙ whole))
+wanted-as asked wanted name s m first (keeps, inr (unfailed, end, is)) whole = wanted-by asked wanted name s first (given_at s name.path) refl is whole
 
-few-failures : (asked : ReviewAsked) (sought : List ℕ) (name : NameSeen) (s m : SourceState) (first : KeyReview) → TellsFile (telling asked sought) name s (Some m) first → m.failures ≤ s.failures + 1
-few-failures asked sought name s m first (keeps, inl (failed, is)) = let one : m.failures ≡ s.failures + 1 = failed.0 in omega (arith, one)
-few-failures asked sought name s m first (keeps, inr (unfailed, end, is)) = let same : m.failures ≡ s.failures = unfailed in omega (arith, same)
+few-failures : (asked : ReviewAsked) (wanted : List ℕ) (name : NameSeen) (s m : SourceState) (first : KeyReview) → TellsFile (telling asked wanted) name s (Some m) first → m.failures ≤ s.failures + 1
+few-failures asked wanted name s m first (keeps, inl (failed, is)) = let one : m.failures ≡ s.failures + 1 = failed.0 in omega (arith, one)
+few-failures asked wanted name s m first (keeps, inr (unfailed, end, is)) = let same : m.failures ≡ s.failures = unfailed in omega (arith, same)
 
-holds : (kind : ReviewKind) (sought : List ℕ) (asked : ReviewAsked) (name file : List ℕ) → (whole_for_key kind sought asked.form asked.asking name file).stands ≡ true → StandsIn kind sought file
-holds Auth sought asked name file h = key-stands sought asked.form asked.asking name file h
-holds Known sought asked name file h = host-key-stands sought asked.form asked.asking name file h
+holds : (kind : ReviewKind) (wanted : List ℕ) (asked : ReviewAsked) (name file : List ℕ) → (whole_for_key kind wanted asked.form asked.asking name file).stands ≡ true → StandsIn kind wanted file
+holds Auth wanted asked name file h = key-stands wanted asked.form asked.asking name file h
+holds Known wanted asked name file h = host-key-stands wanted asked.form asked.asking name file h
 
-holds-none : (kind : ReviewKind) (sought : List ℕ) (asked : ReviewAsked) (name file : List ℕ) → (whole_for_key kind sought asked.form asked.asking name file).stands ≡ false → StandsNowhereIn kind sought file
-holds-none Auth sought asked name file h = key-nowhere sought asked.form asked.asking name file h
-holds-none Known sought asked name file h = host-key-nowhere sought asked.form asked.asking name file h
+holds-none : (kind : ReviewKind) (wanted : List ℕ) (asked : ReviewAsked) (name file : List ℕ) → (whole_for_key kind wanted asked.form asked.asking name file).stands ≡ false → StandsNowhereIn kind wanted file
+holds-none Auth wanted asked name file h = key-nowhere wanted asked.form asked.asking name file h
+holds-none Known wanted asked name file h = host-key-nowhere wanted asked.form asked.asking name file h
 
 -- ---- all files
 
@@ -101,12 +101,12 @@ record Printed (sofar reported : KeyLines) (rest : List ℕ) (stands : Bool) : T
   faultless : sofar.lines.total.faults ≡ 0
 
 -- each of the files was reviewed without a fault, this text is printed of them, and the key stands in one of them or not
-abbrev EachSought : ReviewAsked → List ℕ → List NameSeen → SourceState → List ℕ → Bool → Type 0
-EachSought asked sought [] s rest stands = (rest ≡ []) × (stands ≡ false)
-EachSought asked sought (name ∷ names) s rest stands =
-    (first : KeyReview) × SoughtAs asked sought name s first
+abbrev EachWanted : ReviewAsked → List ℕ → List NameSeen → SourceState → List ℕ → Bool → Type 0
+EachWanted asked wanted [] s rest stands = (rest ≡ []) × (stands ≡ false)
+EachWanted asked wanted (name ∷ names) s rest stands =
+    (first : KeyReview) × WantedAs asked wanted name s first
     × ((m : SourceState) × (more : List ℕ) × (others : Bool) × KeepsOthers name.path s (Some m) × (rest ≡ first.file.text ++ more) × (stands ≡ (first.stands || others))
-    × EachSought asked sought names m more others)
+    × EachWanted asked wanted names m more others)
 
 or-none : (b : Bool) → b ≡ (b || false)
 or-none true = refl
@@ -116,10 +116,10 @@ or-assoc : (a b c : Bool) → ((a || b) || c) ≡ (a || (b || c))
 or-assoc true b c = refl
 or-assoc false b c = refl
 
-each-sought : (asked : ReviewAsked) (sought : List ℕ) (sofar : KeyLines) (names : List NameSeen) (s : SourceState) (t : Option SourceState) (reported : KeyLines)
-    → s.failures + length names < most_failures → TellsFiles with_key_file (telling asked sought) sofar names s t reported → reported.lines.total.faults ≡ 0
-    → (rest : List ℕ) × (stands : Bool) × Printed sofar reported rest stands × EachSought asked sought names s rest stands
-each-sought asked sought sofar [] s t reported room (unfailed, is) none = (
+each-wanted : (asked : ReviewAsked) (wanted : List ℕ) (sofar : KeyLines) (names : List NameSeen) (s : SourceState) (t : Option SourceState) (reported : KeyLines)
+    → s.failures + length names < most_failures → TellsFiles with_key_file (telling asked wanted) sofar names s t reported → reported.lines.total.faults ≡ 0
+    → (rest : List ℕ) × (stands : Bool) × Printed sofar reported rest stands × EachWanted asked wanted names s rest stands
+each-wanted asked wanted sofar [] s t reported room (unfailed, is) none = (
   [],
   false,
   record {
@@ -129,10 +129,10 @@ each-sought asked sought sofar [] s t reported room (unfailed, is) none = (
   },
   (refl, refl),
 )
-each-sought asked sought sofar (name ∷ names) s t reported room (m, first, one, more) none =
-    let few = few-failures asked sought name s m first one in
+each-wanted asked wanted sofar (name ∷ names) s t reported room (m, first, one, more) none =
+    let few = few-failures asked wanted name s m first one in
     let left : m.failures + length names < most_failures = omega (arith, room, few) in
-    let (rest, others, printed, each) = each-sought asked sought (with_key_file sofar first) names m t reported left (more (omega (arith, left))) none in
+    let (rest, others, printed, each) = each-wanted asked wanted (with_key_file sofar first) names m t reported left (more (omega (arith, left))) none in
     let (before, here) = none-counted sofar.lines.total.faults (fault_count first.file.fault) printed.faultless in
     let whole = some-faults first.file.fault here in (
       first.file.text ++ rest,
@@ -142,38 +142,38 @@ each-sought asked sought sofar (name ∷ names) s t reported room (m, first, one
         standing = printed.standing ∙ or-assoc sofar.stands first.stands others;
         faultless = before;
       },
-      (first, sought-as asked sought name s m first one whole, (m, rest, others, one.0, refl, refl, each)),
+      (first, wanted-as asked wanted name s m first one whole, (m, rest, others, one.0, refl, refl, each)),
     )
 
-prints-each : (asked : ReviewAsked) (sought text before after : List ℕ) (names : List NameSeen) (s : SourceState) (rest : List ℕ) (stands : Bool) → EachSought asked sought names s rest stands
-    → text ≡ before ++ (rest ++ after) → PrintsKeyReviews asked sought text names s
-prints-each asked sought text before after [] s rest stands h is = tt
-prints-each asked sought text before after (name ∷ names) s rest stands (first, found, (m, more, others, keeps, are, standing, each)) is =
+prints-each : (asked : ReviewAsked) (wanted text before after : List ℕ) (names : List NameSeen) (s : SourceState) (rest : List ℕ) (stands : Bool) → EachWanted asked wanted names s rest stands
+    → text ≡ before ++ (rest ++ after) → PrintsKeyReviews asked wanted text names s
+prints-each asked wanted text before after [] s rest stands h is = tt
+prints-each asked wanted text before after (name ∷ names) s rest stands (first, found, (m, more, others, keeps, are, standing, each)) is =
     let parts : text ≡ before ++ (first.file.text ++ (more ++ after)) = is ∙ ap (λ (x : List ℕ). before ++ (x ++ after)) are ∙ ap (λ (x : List ℕ). before ++ x) (append_assoc first.file.text more after) in
     let later : text ≡ (before ++ first.file.text) ++ (more ++ after) = parts ∙ sym (append_assoc before first.file.text (more ++ after)) in
     let part = subst (λ (x : KeyReview). IsPartOf x.file.text text) found.is (before, more ++ after, parts) in
-    ((found.file, found.there, part), (m, keeps, prints-each asked sought text (before ++ first.file.text) after names m more others each later))
+    ((found.file, found.there, part), (m, keeps, prints-each asked wanted text (before ++ first.file.text) after names m more others each later))
 
 none-of : (a b : Bool) → false ≡ (a || b) → (a ≡ false) × (b ≡ false)
 none-of true b h = cc
 none-of false b h = (refl, sym h)
 
-nowhere-in : (asked : ReviewAsked) (sought : List ℕ) (names : List NameSeen) (s : SourceState) (rest : List ℕ) (stands : Bool) → EachSought asked sought names s rest stands → stands ≡ false
-    → EachFile (StandsNowhereIn asked.kind sought) (map (λ name. name.path) names) s
-nowhere-in asked sought [] s rest stands h none = tt
-nowhere-in asked sought (name ∷ names) s rest stands (first, found, (m, more, others, keeps, are, standing, each)) none =
+nowhere-in : (asked : ReviewAsked) (wanted : List ℕ) (names : List NameSeen) (s : SourceState) (rest : List ℕ) (stands : Bool) → EachWanted asked wanted names s rest stands → stands ≡ false
+    → EachFile (StandsNowhereIn asked.kind wanted) (map (λ name. name.path) names) s
+nowhere-in asked wanted [] s rest stands h none = tt
+nowhere-in asked wanted (name ∷ names) s rest stands (first, found, (m, more, others, keeps, are, standing, each)) none =
     let (here, later) = none-of first.stands others (sym none ∙ standing) in
     let not_here = sym (ap (λ (x : KeyReview). x.stands) found.is) ∙ here in
-    ((found.file, found.there, holds-none asked.kind sought asked (file_head asked.form name) found.file not_here), (m, keeps, nowhere-in asked sought names m more others each later))
+    ((found.file, found.there, holds-none asked.kind wanted asked (file_head asked.form name) found.file not_here), (m, keeps, nowhere-in asked wanted names m more others each later))
 
-stands-in : (asked : ReviewAsked) (sought : List ℕ) (names : List NameSeen) (s : SourceState) (rest : List ℕ) (stands : Bool) → EachSought asked sought names s rest stands → stands ≡ true
-    → SomeFile (StandsIn asked.kind sought) (map (λ name. name.path) names) s
-stands-in asked sought [] s rest stands h some = (let no : true ≡ false = sym some ∙ h.1 in cc)
-stands-in asked sought (name ∷ names) s rest stands (first, found, (m, more, others, keeps, are, standing, each)) some =
-    by first.stands refl (sym standing ∙ some) (stands-in asked sought names m more others each)
+stands-in : (asked : ReviewAsked) (wanted : List ℕ) (names : List NameSeen) (s : SourceState) (rest : List ℕ) (stands : Bool) → EachWanted asked wanted names s rest stands → stands ≡ true
+    → SomeFile (StandsIn asked.kind wanted) (map (λ name. name.path) names) s
+stands-in asked wanted [] s rest stands h some = (let no : true ≡ false = sym some ∙ h.1 in cc)
+stands-in asked wanted (name ∷ names) s rest stands (first, found, (m, more, others, keeps, are, standing, each)) some =
+    by first.stands refl (sym standing ∙ some) (stands-in asked wanted names m more others each)
   where
-    by : (b : Bool) → first.stands ≡ b → (b || others) ≡ true → (others ≡ true → SomeFile (StandsIn asked.kind sought) (map (λ name. name.path) names) m) → SomeFile (StandsIn asked.kind sought) (map (λ name. name.path) (name ∷ names)) s
-    by true is e later = inl (found.file, found.there, holds asked.kind sought asked (file_head asked.form name) found.file (sym (ap (λ (x : KeyReview). x.stands) found.is) ∙ is))
+    by : (b : Bool) → first.stands ≡ b → (b || others) ≡ true → (others ≡ true → SomeFile (StandsIn asked.kind wanted) (map (λ name. name.path) names) m) → SomeFile (StandsIn asked.kind wanted) (map (λ name. name.path) (name ∷ names)) s
+    by true is e later = inl (found.file, found.there, holds asked.kind wanted asked (file_head asked.form name) found.file (sym (ap (λ (x : KeyReview). x.stands) found.is) ∙ is))
     by false is e later = inr (m, keeps, later e)
 
 -- ---- a response
@@ -202,24 +202,24 @@ status-stands total stands h = by (nat_lt 0 total.faults) stands h
     by false false e = absurd (omega (arith, e))
 
 -- what the files come to, by the status
-record Found (asked : ReviewAsked) (sought : List ℕ) (s : SourceState) (r : Response) : Type 0 where
-  reviews : PrintsKeyReviews asked sought r.text asked.names s
-  nowhere : r.status ≡ 0 → EachFile (StandsNowhereIn asked.kind sought) (map (λ name. name.path) asked.names) s
-  stands : r.status ≡ 1 → SomeFile (StandsIn asked.kind sought) (map (λ name. name.path) asked.names) s
+record Found (asked : ReviewAsked) (wanted : List ℕ) (s : SourceState) (r : Response) : Type 0 where
+  reviews : PrintsKeyReviews asked wanted r.text asked.names s
+  nowhere : r.status ≡ 0 → EachFile (StandsNowhereIn asked.kind wanted) (map (λ name. name.path) asked.names) s
+  stands : r.status ≡ 1 → SomeFile (StandsIn asked.kind wanted) (map (λ name. name.path) asked.names) s
 
-found-of : (asked : ReviewAsked) (sought : List ℕ) (s : SourceState) (t : Option SourceState) (r : Response) → s.failures + length asked.names < most_failures
-    → SeeksKey asked.kind asked.form asked.rule asked.asking asked.names sought s t r → r.status < 2 → Found asked sought s r
-found-of asked sought s t r room (inr (reported, front, is)) few = let two : r.status ≡ 2 = status-of r _ is in absurd (omega (arith, two, few))
-found-of asked sought s t r room (inl (reported, chain, is)) few =
+found-of : (asked : ReviewAsked) (wanted : List ℕ) (s : SourceState) (t : Option SourceState) (r : Response) → s.failures + length asked.names < most_failures
+    → SeeksKey asked.kind asked.form asked.rule asked.asking asked.names wanted s t r → r.status < 2 → Found asked wanted s r
+found-of asked wanted s t r room (inr (reported, front, is)) few = let two : r.status ≡ 2 = status-of r _ is in absurd (omega (arith, two, few))
+found-of asked wanted s t r room (inl (reported, chain, is)) few =
     let status = status-of r _ is in
     let none = status-faultless reported.lines.total reported.stands (omega (arith, status, few)) in
-    let (rest, stands, printed, each) = each-sought asked sought (key_lines_before asked.form) asked.names s t reported room chain none in
+    let (rest, stands, printed, each) = each-wanted asked wanted (key_lines_before asked.form) asked.names s t reported room chain none in
     let whole : r.text ≡ first_lines asked.form ++ (rest ++ total_line asked.form (kind_name asked.kind) asked.rule asked.asking reported.lines.total) = ap (λ (x : Response). x.text) is ∙ ap (λ (x : List ℕ). x ++ total_line asked.form (kind_name asked.kind) asked.rule asked.asking reported.lines.total) printed.text ∙ append_assoc (first_lines asked.form) rest (total_line asked.form (kind_name asked.kind) asked.rule asked.asking reported.lines.total) in
     let standing : reported.stands ≡ stands = printed.standing in
     record {
-      reviews = prints-each asked sought r.text (first_lines asked.form) (total_line asked.form (kind_name asked.kind) asked.rule asked.asking reported.lines.total) asked.names s rest stands each whole;
-      nowhere = λ done. nowhere-in asked sought asked.names s rest stands each (sym standing ∙ status-nowhere reported.lines.total reported.stands (sym status ∙ done));
-      stands = λ done. stands-in asked sought asked.names s rest stands each (sym standing ∙ status-stands reported.lines.total reported.stands (sym status ∙ done));
+      reviews = prints-each asked wanted r.text (first_lines asked.form) (total_line asked.form (kind_name asked.kind) asked.rule asked.asking reported.lines.total) asked.names s rest stands each whole;
+      nowhere = λ done. nowhere-in asked wanted asked.names s rest stands each (sym standing ∙ status-nowhere reported.lines.total reported.stands (sym status ∙ done));
+      stands = λ done. stands-in asked wanted asked.names s rest stands each (sym standing ∙ status-stands reported.lines.total reported.stands (sym status ∙ done));
     }
 
 -- ---- the key
@@ -246,30 +246,30 @@ spelled-faulty : (key : List ℕ) → IsFaulty (spelled_fingerprint key)
 spelled-faulty key = fault-faulty option.Key (option_map digest_text_of (fingerprint_bytes key))
 
 by-spelled : (asked : ReviewAsked) (key : List ℕ) (s : SourceState) (t : Option SourceState) (r : Response) → is_fingerprint key ≡ true → s.failures + length asked.names < most_failures
-    → (sought : Result (List ℕ) Response) → spelled_fingerprint key ≡ sought → RespondsTo (SeeksKey asked.kind asked.form asked.rule asked.asking asked.names) sought s t r → r.status < 2 → GivenKey asked key s r
+    → (wanted : Result (List ℕ) Response) → spelled_fingerprint key ≡ wanted → RespondsTo (SeeksKey asked.kind asked.form asked.rule asked.asking asked.names) wanted s t r → r.status < 2 → GivenKey asked key s r
 by-spelled asked key s t r is room (Err fault) spelled (unfailed, same) few =
     let two = spelled-faulty key fault spelled in
     let reported = status-of r fault same in
     absurd (omega (arith, two, reported, few))
-by-spelled asked key s t r is room (Ok sought) spelled h few = record {
-  fingerprint = sought;
+by-spelled asked key s t r is room (Ok wanted) spelled h few = record {
+  fingerprint = wanted;
   left = s;
-  gives = subst (λ (b : Bool). GivesBy b key s sought s) (sym is) (spelled, refl);
-  found = found-of asked sought s t r room h few;
+  gives = subst (λ (b : Bool). GivesBy b key s wanted s) (sym is) (spelled, refl);
+  found = found-of asked wanted s t r room h few;
 }
 
 of-file : (asked : ReviewAsked) (key : List ℕ) (s m : SourceState) (t : Option SourceState) (r : Response) → is_fingerprint key ≡ false → m.failures + length asked.names < most_failures → KeepsOthers key s (Some m)
-    → (sought : Result (List ℕ) Response) → fingerprint_or_fault key (within_limit (bytes_at s key)) ≡ sought → RespondsTo (SeeksKey asked.kind asked.form asked.rule asked.asking asked.names) sought m t r → r.status < 2
+    → (wanted : Result (List ℕ) Response) → fingerprint_or_fault key (within_limit (bytes_at s key)) ≡ wanted → RespondsTo (SeeksKey asked.kind asked.form asked.rule asked.asking asked.names) wanted m t r → r.status < 2
     → GivenKey asked key s r
 of-file asked key s m t r is room keeps (Err fault) printed (unfailed, same) few =
     let two = file-faulty key (within_limit (bytes_at s key)) fault printed in
     let reported = status-of r fault same in
     absurd (omega (arith, two, reported, few))
-of-file asked key s m t r is room keeps (Ok sought) printed h few = record {
-  fingerprint = sought;
+of-file asked key s m t r is room keeps (Ok wanted) printed h few = record {
+  fingerprint = wanted;
   left = m;
-  gives = subst (λ (b : Bool). GivesBy b key s sought m) (sym is) (printed, keeps);
-  found = found-of asked sought m t r room h few;
+  gives = subst (λ (b : Bool). GivesBy b key s wanted m) (sym is) (printed, keeps);
+  found = found-of asked wanted m t r room h few;
 }
 
 by-file : (asked : ReviewAsked) (key : List ℕ) (s : SourceState) (t : Option SourceState) (r : Response) → is_fingerprint key ≡ false → s.failures + length asked.names < most_failures
@@ -287,21 +287,21 @@ given-by asked key s t r false is room h few = by-file asked key s t r is room h
 -- ---- a run
 
 -- what the options ask, and what came of it
-record SoughtRun (rows : List Row) (key : List ℕ) (s : SourceState) (r : Response) : Type 0 where
+record WantedRun (rows : List Row) (key : List ℕ) (s : SourceState) (r : Response) : Type 0 where
   zone : Option TimeZone
   read : ReadsZone (review_rule rows) zone
   asked : ReviewAsked
   spelled : review_spelled rows zone ≡ Ok (in_lines asked)
   given_key : GivenKey asked key s r
 
-sought-in : (rows : List Row) (names : List (List ℕ)) (key : List ℕ) (zone : Option TimeZone) (s : SourceState) (t : Option SourceState) (r : Response) → names_needed rows ≡ Ok names
+wanted-in : (rows : List Row) (names : List (List ℕ)) (key : List ℕ) (zone : Option TimeZone) (s : SourceState) (t : Option SourceState) (r : Response) → names_needed rows ≡ Ok names
     → s.failures + length names < most_failures → ReadsZone (review_rule rows) zone → AsksForKey rows key
-    → (x : Result ReviewCall Response) → review_spelled rows zone ≡ x → RespondsTo (λ q. ReviewsAs q.form (Some key) q.kind q.failing q.rule q.asking q.names) x s t r → r.status < 2 → SoughtRun rows key s r
-sought-in rows names key zone s t r named room read for_key (Err fault) spelled (unfailed, is) few =
+    → (x : Result ReviewCall Response) → review_spelled rows zone ≡ x → RespondsTo (λ q. ReviewsAs q.form (Some key) q.kind q.failing q.rule q.asking q.names) x s t r → r.status < 2 → WantedRun rows key s r
+wanted-in rows names key zone s t r named room read for_key (Err fault) spelled (unfailed, is) few =
     let two = review-faulty rows zone fault spelled in
     let same = status-of r fault is in
     absurd (omega (arith, two, same, few))
-sought-in rows names key zone s t r named room read for_key (Ok q) spelled h few =
+wanted-in rows names key zone s t r named room read for_key (Ok q) spelled h few =
     let (words, needed, as_many) = review-names rows zone q spelled in
     let are = ok-same {A = List (List ℕ)} {B = Response} names words (sym named ∙ needed) in
     let (show, form, is, asked) = asks-key rows zone q key for_key spelled in
@@ -315,7 +315,7 @@ sought-in rows names key zone s t r named room read for_key (Ok q) spelled h few
           (subst (λ (x : FormAsked). ReviewsAs x (Some key) q.kind q.failing q.rule q.asking q.names s t r) is h) few;
     }
 
-reported-of : (rows : List Row) (key : List ℕ) (s : SourceState) (r : Response) → SoughtRun rows key s r → KeySought rows key s r
+reported-of : (rows : List Row) (key : List ℕ) (s : SourceState) (r : Response) → WantedRun rows key s r → KeyWanted rows key s r
 reported-of rows key s r h = record {
   zone = h.zone;
   read = h.read;
@@ -330,27 +330,27 @@ reported-of rows key s r h = record {
 pub key_nowhere_run : (words : List (List ℕ)) (o t : Option SourceState) (old new : Option Account) (status : ℕ) → IfTells o (Answered words t old new status)
     → IfTells o (λ s. (rows : List Row) (names : List (List ℕ)) (key : List ℕ) → AsksOfFiles command.Review words s rows names → AsksForKey rows key → status ≡ 0
     → (r : Response) × KeyNowhere rows key (source_of words s) r × WritesResponse old new r status)
-unfolding reported-of sought-in
+unfolding reported-of wanted-in
 key_nowhere_run words None t old new status h = tt
 key_nowhere_run words (Some s) t old new status h = λ room rows names key asks for_key is.
     let (r, answers, writes) = h room in
     let done = ends-as 0 (omega arith) old new r status writes is in
     let few : r.status < 2 = omega (arith, done) in
     let (zone, read, by) = asked-run command.Review words s t r rows asks.request answers few in
-    let run = sought-in rows names key zone (source_of words s) t r asks.named asks.room read for_key (review_spelled rows zone) refl
+    let run = wanted-in rows names key zone (source_of words s) t r asks.named asks.room read for_key (review_spelled rows zone) refl
     (subst (λ (k : Option (List ℕ)). RespondsTo (λ q. ReviewsAs q.form k q.kind q.failing q.rule q.asking q.names) (review_spelled rows zone) (source_of words s) t r) for_key by) few in
-    (r, record { sought = reported-of rows key (source_of words s) r run; nowhere = run.given_key.found.nowhere done }, writes)
+    (r, record { wanted = reported-of rows key (source_of words s) r run; nowhere = run.given_key.found.nowhere done }, writes)
 
 pub key_standing_run : (words : List (List ℕ)) (o t : Option SourceState) (old new : Option Account) (status : ℕ) → IfTells o (Answered words t old new status)
     → IfTells o (λ s. (rows : List Row) (names : List (List ℕ)) (key : List ℕ) → AsksOfFiles command.Review words s rows names → AsksForKey rows key → status ≡ 1
     → (r : Response) × KeyStanding rows key (source_of words s) r × WritesResponse old new r status)
-unfolding reported-of sought-in
+unfolding reported-of wanted-in
 key_standing_run words None t old new status h = tt
 key_standing_run words (Some s) t old new status h = λ room rows names key asks for_key is.
     let (r, answers, writes) = h room in
     let done = ends-as 1 (omega arith) old new r status writes is in
     let few : r.status < 2 = omega (arith, done) in
     let (zone, read, by) = asked-run command.Review words s t r rows asks.request answers few in
-    let run = sought-in rows names key zone (source_of words s) t r asks.named asks.room read for_key (review_spelled rows zone) refl
+    let run = wanted-in rows names key zone (source_of words s) t r asks.named asks.room read for_key (review_spelled rows zone) refl
     (subst (λ (k : Option (List ℕ)). RespondsTo (λ q. ReviewsAs q.form k q.kind q.failing q.rule q.asking q.names) (review_spelled rows zone) (source_of words s) t r) for_key by) few in
-    (r, record { sought = reported-of rows key (source_of words s) r run; stands = run.given_key.found.stands done }, writes)
+    (r, record { wanted = reported-of rows key (source_of words s) r run; stands = run.given_key.found.stands done }, writes)

@@ -63,13 +63,13 @@ same-reported name file vouched reported s whole is known = sym (ap (vouched_or_
 same-vouched : (a b : List Signed) → or_vouch_fault (Ok a) ≡ Ok b → a ≡ b
 same-vouched a b h = cc
 
-pub sought_responds : {R E : Type 0} (view : R → Shown) (name : List ℕ) (signed : Signed) (found : Found) (o t : Option SourceState) (res : Result R E)
+pub wanted_responds : {R E : Type 0} (view : R → Shown) (name : List ℕ) (signed : Signed) (found : Found) (o t : Option SourceState) (res : Result R E)
     → IfTells o (λ s. ((file : List ℕ) × (within_limit (part_at s name) ≡ Some file) × TellsOf (Some signed) None file (Ok found)) × IsLeft s (after_part s name) t)
     → IfOk res (λ r. view r ≡ sshsig_response (Ok (answer_where found.first (signed ∷ []))))
     → IfTells o (λ s. IfOk res (λ r. SignsAgain signed name s t (view r)))
-sought_responds view name signed found None t res loads h = tt
-sought_responds view name signed found (Some s) t (Err e) loads h = λ counts. tt
-sought_responds view name signed found (Some s) t (Ok r) loads h = λ counts vouched known.
+wanted_responds view name signed found None t res loads h = tt
+wanted_responds view name signed found (Some s) t (Err e) loads h = λ counts. tt
+wanted_responds view name signed found (Some s) t (Ok r) loads h = λ counts vouched known.
     let ((file, whole, (reported, is, are)), left) = loads counts in
     let same : reported ≡ vouched = same-vouched reported vouched (same-reported name file vouched (Ok reported) s whole is known) in
     answered signed found.first (Some name) vouched s t (view r) (left-none s (after_part s name) t left) (are.0 ∙ ap (λ l. is_vouched l signed) same) h

@@ -33,13 +33,13 @@ use Rattle.ssh_program.specs.Spelling.{RespondsTo, or_fault}
 -- ---- the files
 
 -- the output lines of some files, and their total
-pub record SoughtLines : Type 0 where
+pub record WantedLines : Type 0 where
   pub total : Total
   pub text : List ℕ
 
 -- the same, and whether the key stands in one of them
 pub record KeyLines : Type 0 where
-  pub lines : SoughtLines
+  pub lines : WantedLines
   pub stands : Bool
 
 -- what is kept of the lines, whose text is written
@@ -49,7 +49,7 @@ key_total k = record { total = k.lines.total; stands = k.stands }
 abbrev pub key_lines_before : Form → KeyLines
 key_lines_before form = record { lines = record { total = nothing; text = first_lines form }; stands = false }
 
--- all key lines that are counted have the key that is sought, so it is the only one, where there is such a line
+-- all key lines that are counted have the key that is wanted, so it is the only one, where there is such a line
 abbrev pub one_key : ℕ → ℕ → Option ℕ
 one_key lines more = Some (min 1 (lines + more))
 

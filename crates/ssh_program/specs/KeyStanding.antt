@@ -54,7 +54,7 @@ PrintsKeyReviews asked fingerprint text (name ∷ names) s =
     × ((m : SourceState) × KeepsOthers name.path s (Some m) × PrintsKeyReviews asked fingerprint text names m)
 
 -- the options ask where the key with this fingerprint stands, and each file's records of it were printed
-pub record KeySought (rows : List Row) (key : List ℕ) (s : SourceState) (r : Response) : Type 0 where
+pub record KeyWanted (rows : List Row) (key : List ℕ) (s : SourceState) (r : Response) : Type 0 where
   pub zone : Option TimeZone
   pub read : ReadsZone (review_rule rows) zone
   pub asked : ReviewAsked
@@ -66,10 +66,10 @@ pub record KeySought (rows : List Row) (key : List ℕ) (s : SourceState) (r : R
 
 -- status 0: each of the named files is there, and no line of it holds the key
 pub record KeyNowhere (rows : List Row) (key : List ℕ) (s : SourceState) (r : Response) : Type 0 where
-  pub sought : KeySought rows key s r
-  pub nowhere : EachFile (StandsNowhereIn sought.asked.kind sought.fingerprint) (map (λ name. name.path) sought.asked.names) sought.left
+  pub wanted : KeyWanted rows key s r
+  pub nowhere : EachFile (StandsNowhereIn wanted.asked.kind wanted.fingerprint) (map (λ name. name.path) wanted.asked.names) wanted.left
 
 -- status 1: a line of one of the named files holds it
 pub record KeyStanding (rows : List Row) (key : List ℕ) (s : SourceState) (r : Response) : Type 0 where
-  pub sought : KeySought rows key s r
-  pub stands : SomeFile (StandsIn sought.asked.kind sought.fingerprint) (map (λ name. name.path) sought.asked.names) sought.left
+  pub wanted : KeyWanted rows key s r
+  pub stands : SomeFile (StandsIn wanted.asked.kind wanted.fingerprint) (map (λ name. name.path) wanted.asked.names) wanted.left

@@ -19,9 +19,9 @@ RestsOn (Ok decision) (Ok evidence) = (length evidence ≤ 2)
     × ((file : List ℕ) (a b : List Signed) → VouchAlike a b evidence → decision file a ≡ decision file b)
 
 -- the signatures to look for in a vouch file: the evidence, or none if the offer is refused
-abbrev pub sought_in : Result (List Signed) AuditError → List Signed
-sought_in (Ok evidence) = evidence
-sought_in (Err e) = []
+abbrev pub wanted_in : Result (List Signed) AuditError → List Signed
+wanted_in (Ok evidence) = evidence
+wanted_in (Err e) = []
 
 abbrev pub first_resting : List Signed → Option Signed
 first_resting [] = None

@@ -12,7 +12,7 @@ ghost use Rattle.ssh_trust.specs.Answer.{GivesOrMemory, OfClaim, RefusesAs};
 ghost use Rattle.ssh_trust.specs.HostDecision.{host_decision};
 ghost use Rattle.ssh_trust.specs.LoginDecision.{login_decision};
 ghost use Rattle.ssh_program.specs.Audits.{Deciding, DecidesReader, decided_by, evidence_by, refusal_of, Audits, or_vouch_fault};
-ghost use Rattle.ssh_program.specs.NeededVouches.{RestsOn, first_resting, second_resting, sought_in};
+ghost use Rattle.ssh_program.specs.NeededVouches.{RestsOn, first_resting, second_resting, wanted_in};
 ghost use Rattle.ssh_program.specs.FileAnswers.{AnswersFile, AuditsFile, AuditsVouched, IsFaultOf, is_memory};
 ghost use Rattle.ssh_program.specs.FileNamesView.{files_seen};
 ghost use Rattle.ssh_files.specs.Seeking.{TellsOf};
@@ -22,7 +22,7 @@ ghost use Rattle.ssh_files.specs.VouchFile.{vouched_of};
 
 use crate::admits::AuditFiles;
 use crate::question::{HostQuestion, LoginQuestion};
-use crate::texts::{first_two, kept, sought};
+use crate::texts::{first_two, kept, wanted};
 use ssh_files::{Files, Found, ReadError, seek_vouched};
 use ssh_offers::{AuditError, Items, Signed, host_evidence, login_evidence};
 use ssh_print::{Response, decision_response, file_fault, vouch_fault};
@@ -262,7 +262,7 @@ fn respond_reported<Q: Question, F: Files>(
     reported: Result<Found, u64>,
     files: &mut F,
 ) -> Result<Response, AllocError>
-    requires evidence { evidence.now ≡ sought_in (Q.rests_on question.now) }
+    requires evidence { evidence.now ≡ wanted_in (Q.rests_on question.now) }
     requires rests { RestsOn (Q.decides question.now) (Q.rests_on question.now) }
     ensures { (file : List ℕ) → TellsOf (first_resting evidence.now) (second_resting evidence.now) file reported
         → IfTells (F.source_state files.old) (λ s. IfOk result (λ r.
@@ -276,7 +276,7 @@ fn respond_reported<Q: Question, F: Files>(
 }
 
 /// The response to a question with the vouch file of this name.
-fn respond_sought<Q: Question, F: Files>(
+fn respond_wanted<Q: Question, F: Files>(
     alloc: Global,
     names: &AuditFiles<'_>,
     question: &Q,
@@ -284,7 +284,7 @@ fn respond_sought<Q: Question, F: Files>(
     evidence: &[Signed],
     files: &mut F,
 ) -> Result<Response, AllocError>
-    requires evidence { evidence.now ≡ sought_in (Q.rests_on question.now) }
+    requires evidence { evidence.now ≡ wanted_in (Q.rests_on question.now) }
     requires rests { RestsOn (Q.decides question.now) (Q.rests_on question.now) }
     requires vouch { (files_seen names.now).vouch ≡ Some name.now }
     ensures { IfTells (F.source_state files.old) (λ s. IfOk result (λ r.
@@ -313,8 +313,8 @@ pub fn respond_question<Q: Question, F: Files>(
     match names.vouch {
         None => respond_vouched(alloc, names, question, &[], files),
         Some(name) => {
-            let evidence = sought(alloc, question)?;
-            respond_sought(alloc, names, question, name, evidence.as_slice(), files)
+            let evidence = wanted(alloc, question)?;
+            respond_wanted(alloc, names, question, name, evidence.as_slice(), files)
         }
     }
 }

@@ -56,7 +56,7 @@ pub struct KeyTotal {
     pub stands: bool,
 }
 
-/// How many different keys stand on key lines, of which all have the key that is sought: one, if
+/// How many different keys stand on key lines, of which all have the key that is wanted: one, if
 /// there is such a line.
 fn one_key(lines: u64, more: u64) -> Option<u64>
     ensures { result ≡ one_key lines more }
@@ -77,13 +77,13 @@ fn either(one: bool, other: bool) -> bool
 
 /// Writes the review for the key with this fingerprint, of a file of these bytes, each record of
 /// which begins with this head.
-/// Notes no key, since `one_key` counts the one that is sought.
+/// Notes no key, since `one_key` counts the one that is wanted.
 fn put_bytes_review<W: Sink>(
     alloc: Global,
     kind: ReviewKind,
     form: Form,
     asked: &ReviewOptions<'_>,
-    sought: &[u8; 43],
+    wanted: &[u8; 43],
     head: &[u8],
     file: &[u8],
     buffer: &mut KeyBuffer,
@@ -93,13 +93,13 @@ fn put_bytes_review<W: Sink>(
     requires none { NoneFailed (W.account writer.old) }
     requires limit { length file.now ≤ file_limit }
     ensures failed { FailedIfStopped result (W.account writer.new) }
-    ensures put { TextPut (key_review_of sought.now kind form (asking_of asked.entry.now) head.now file.now).file.text
-        (key_review_kept (key_review_of sought.now kind form (asking_of asked.entry.now) head.now file.now))
+    ensures put { TextPut (key_review_of wanted.now kind form (asking_of asked.entry.now) head.now file.now).file.text
+        (key_review_kept (key_review_of wanted.now kind form (asking_of asked.entry.now) head.now file.now))
         (W.account writer.old) (W.account writer.new) result }
 {
     match kind {
         ReviewKind::Auth => {
-            let records = auth_key_records(alloc, file, sought);
+            let records = auth_key_records(alloc, file, wanted);
             put_review(
                 alloc,
                 Show::All,
@@ -114,7 +114,7 @@ fn put_bytes_review<W: Sink>(
             )
         }
         ReviewKind::Known => {
-            let records = known_key_records(alloc, file, sought);
+            let records = known_key_records(alloc, file, wanted);
             put_review(
                 alloc,
                 Show::All,
@@ -137,7 +137,7 @@ fn put_headed<F: Files, W: Sink>(
     kind: ReviewKind,
     form: Form,
     asked: &ReviewOptions<'_>,
-    sought: &[u8; 43],
+    wanted: &[u8; 43],
     name: FileName<'_>,
     head: &[u8],
     buffer: &mut KeyBuffer,
@@ -147,7 +147,7 @@ fn put_headed<F: Files, W: Sink>(
     requires none { NoneFailed (W.account writer.old) }
     requires head { head.now ≡ file_head form (name_seen name) }
     ensures failed { FailedIfStopped result (W.account writer.new) }
-    ensures reported { TextWritten (telling_key_review sought.now kind form (asking_of asked.entry.now))
+    ensures reported { TextWritten (telling_key_review wanted.now kind form (asking_of asked.entry.now))
         (λ r. r.file.text) key_review_kept (name_seen name.entry) (F.source_state files.old)
         (F.source_state files.new) (W.account writer.old) (W.account writer.new) result }
 {
@@ -155,7 +155,7 @@ fn put_headed<F: Files, W: Sink>(
         Ok(file) => {
             let mut keys = DistinctKeys::new(alloc);
             put_bytes_review(
-                alloc, kind, form, asked, sought, head, &file, buffer, &mut keys, writer,
+                alloc, kind, form, asked, wanted, head, &file, buffer, &mut keys, writer,
             )
         }
         Err(fault) => {
@@ -171,7 +171,7 @@ fn put_file<F: Files, W: Sink>(
     kind: ReviewKind,
     form: Form,
     asked: &ReviewOptions<'_>,
-    sought: &[u8; 43],
+    wanted: &[u8; 43],
     name: FileName<'_>,
     buffer: &mut KeyBuffer,
     files: &mut F,
@@ -179,13 +179,13 @@ fn put_file<F: Files, W: Sink>(
 ) -> Result<FileReported, Stop>
     requires { NoneFailed (W.account writer.old) }
     ensures failed { FailedIfStopped result (W.account writer.new) }
-    ensures reported { TextWritten (telling_key_review sought.now kind form (asking_of asked.entry.now))
+    ensures reported { TextWritten (telling_key_review wanted.now kind form (asking_of asked.entry.now))
         (λ r. r.file.text) key_review_kept (name_seen name.entry) (F.source_state files.old)
         (F.source_state files.new) (W.account writer.old) (W.account writer.new) result }
 {
     let head = file_head(alloc, form, name)?;
     put_headed(
-        alloc, kind, form, asked, sought, name, &head, buffer, files, writer,
+        alloc, kind, form, asked, wanted, name, &head, buffer, files, writer,
     )
 }
 
@@ -195,7 +195,7 @@ fn tell_files<F: Files, W: Sink>(
     kind: ReviewKind,
     form: Form,
     asked: &ReviewOptions<'_>,
-    sought: &[u8; 43],
+    wanted: &[u8; 43],
     names: ListedNames<'_>,
     files: &mut F,
     writer: &mut W,
@@ -203,7 +203,7 @@ fn tell_files<F: Files, W: Sink>(
     requires { NoneFailed (W.account writer.old) }
     ensures failed { FailedIfStopped result (W.account writer.new) }
     ensures reported { IfTells (F.source_state files.old) (λ s. TextsWritten with_key_file
-        (telling_key_review sought.now kind form (asking_of asked.entry.now)) (key_lines_before form)
+        (telling_key_review wanted.now kind form (asking_of asked.entry.now)) (key_lines_before form)
         (λ reported. reported.lines.text) (λ r. r.file.text) key_total (names_seen names.entry) s
         (F.source_state files.new) (W.account writer.old) (W.account writer.new) result) }
 {
@@ -218,7 +218,7 @@ fn tell_files<F: Files, W: Sink>(
             kind,
             form,
             asked,
-            sought,
+            wanted,
             name,
             &mut buffer,
             files,
@@ -241,17 +241,17 @@ fn seek_key<F: Files, W: Sink>(
     rule: &[u8],
     asked: &ReviewOptions<'_>,
     names: ListedNames<'_>,
-    sought: &[u8; 43],
+    wanted: &[u8; 43],
     files: &mut F,
     writer: &mut W,
 ) -> u8
     requires { NoneFailed (W.account writer.old) }
     ensures { IfTells (F.source_state files.old) (λ s. WritesAnswer
         (SeeksKey kind form rule.now (asking_of asked.entry.now) (names_seen names.entry)
-        sought.now s (F.source_state files.new))
+        wanted.now s (F.source_state files.new))
         (W.account writer.old) (W.account writer.new) result) }
 {
-    match tell_files(alloc, kind, form, asked, sought, names, files, writer) {
+    match tell_files(alloc, kind, form, asked, wanted, names, files, writer) {
         Ok(reported) => {
             let status = key_status(&reported.total, reported.stands);
             put_total(
@@ -298,8 +298,8 @@ fn seek_offer<F: Files, W: Sink>(
         (W.account writer.old) (W.account writer.new) result) }
 {
     match offer_print(alloc, offer) {
-        Ok(sought) => seek_key(
-            alloc, kind, form, rule, asked, names, &sought, files, writer,
+        Ok(wanted) => seek_key(
+            alloc, kind, form, rule, asked, names, &wanted, files, writer,
         ),
         Err(AllocError) => put_no_memory(writer),
     }
@@ -372,8 +372,8 @@ fn seek_fingerprint<F: Files, W: Sink>(
         (W.account writer.old) (W.account writer.new) result) }
 {
     match spelled_fingerprint(alloc, text) {
-        Ok(sought) => seek_key(
-            alloc, kind, form, rule, asked, names, &sought, files, writer,
+        Ok(wanted) => seek_key(
+            alloc, kind, form, rule, asked, names, &wanted, files, writer,
         ),
         Err(fault) => put_made(writer, respond_fault(alloc, fault)),
     }

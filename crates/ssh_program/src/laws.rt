@@ -24,7 +24,7 @@ ghost use Rattle.ssh_offers.specs.LoginClaim.{LoginClaim, login_claim};
 ghost use Rattle.ssh_options.specs.declared.option_text.LineCause.{LineCause};
 ghost use Rattle.ssh_text.specs.Text.{lines_of};
 ghost use Rattle.ssh_print.specs.Denials.{HoldsAnother};
-ghost use Rattle.ssh_print.specs.PossibleLines.{sought_blob};
+ghost use Rattle.ssh_print.specs.PossibleLines.{wanted_blob};
 ghost use Rattle.ssh_program.specs.Admissions.{status_by};
 ghost use Rattle.ssh_review.specs.FileNames.{NameSeen};
 ghost use Rattle.ssh_program.specs.declared.decision_form.DecisionForm.{DecisionForm};
@@ -94,7 +94,7 @@ fn denied_rule()
         → status_by (login_asking form rule q) evidence name file ≡ 1
         → slice_get (lines_of file) i ≡ Some line
         → auth_line line ≡ Unreadable cause
-        → HoldsAnother line (sought_blob claim) }
+        → HoldsAnother line (wanted_blob claim) }
 {}
 
 /// What files tell and leave, what is printed as one, and which fault is reported where there are two.

@@ -24,7 +24,7 @@ fn read_show(word: &str) -> Option<Show>
 }
 
 /// What of a review is shown: all where the option is not given. With `--key` it is not to be given,
-/// since then the records of that key are sought.
+/// since then the records of that key are wanted.
 pub fn show_asked(words: &Args<'_>) -> Result<Show, CommandError>
     ensures { Spells (λ show. show) (show_asked (rows_in words.now)) result }
 {

@@ -56,7 +56,7 @@ impl From<Error> for Stop {
 }
 
 /// What is kept of the review of a file, whose text is written: its counts, whether the key that is
-/// sought stands in it, if one is, and why there is no review.
+/// wanted stands in it, if one is, and why there is no review.
 #[derive(Clone, Copy, Debug)]
 pub struct FileReported {
     pub counts: Counts,

@@ -12,8 +12,8 @@ ghost use Rattle.ssh_program.specs.ArgsView.{Spells};
 ghost use Rattle.base64.specs.Engines.{standard};
 ghost use Rattle.base64.specs.GeneralPurpose.{decoded_of};
 ghost use Rattle.ssh_files.specs.Values.{hex_bytes};
-ghost use Rattle.ssh_files.specs.Seeking.{sought_of};
-ghost use Rattle.ssh_program.specs.NeededVouches.{RestsOn, first_resting, evidence_found, second_resting, sought_in};
+ghost use Rattle.ssh_files.specs.Seeking.{wanted_of};
+ghost use Rattle.ssh_program.specs.NeededVouches.{RestsOn, first_resting, evidence_found, second_resting, wanted_in};
 
 use crate::args::ArgName;
 use crate::audit::{Question, unread};
@@ -143,8 +143,8 @@ pub fn take_texts<'a, F: Files>(
 
 /// The signatures to look for in a vouch file: those that a decision rests on, or none if the offer
 /// is refused.
-pub fn sought<Q: Question>(alloc: Global, question: &Q) -> Result<Items<Signed>, AllocError>
-    ensures evidence { IfOk result (λ evidence. evidence ≡ sought_in (Q.rests_on question.entry.now)) }
+pub fn wanted<Q: Question>(alloc: Global, question: &Q) -> Result<Items<Signed>, AllocError>
+    ensures evidence { IfOk result (λ evidence. evidence ≡ wanted_in (Q.rests_on question.entry.now)) }
     ensures rests { RestsOn (Q.decides question.entry.now) (Q.rests_on question.entry.now) }
 {
     match question.evidence(alloc) {
@@ -157,8 +157,8 @@ pub fn sought<Q: Question>(alloc: Global, question: &Q) -> Result<Items<Signed>,
 
 /// The first two signatures, or as many as there are. A decision rests on two at most.
 pub fn first_two(evidence: &[Signed]) -> (Option<&Signed>, Option<&Signed>)
-    ensures first { sought_of result.0 ≡ first_resting evidence.now }
-    ensures second { sought_of result.1 ≡ second_resting evidence.now }
+    ensures first { wanted_of result.0 ≡ first_resting evidence.now }
+    ensures second { wanted_of result.1 ≡ second_resting evidence.now }
 {
     match evidence {
         [] => (None, None),

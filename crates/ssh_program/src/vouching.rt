@@ -5,7 +5,7 @@ ghost use Rattle.std.specs.Prelude.{◌≡◌, Some, refl, ◌≤◌, length, No
 ghost use Rattle.ssh_program.specs.MemoryFiles.{held_source};
 ghost use Rattle.ssh_files.specs.SourceState.{left_of, IfTells};
 ghost use Rattle.ssh_text.specs.Text.{file_limit};
-ghost use Rattle.ssh_files.specs.Seeking.{TellsOf, sought_of};
+ghost use Rattle.ssh_files.specs.Seeking.{TellsOf, wanted_of};
 ghost use Rattle.ssh_files.specs.VouchFile.{vouched_of};
 ghost use Rattle.ssh_offers.specs.Vouching.{is_vouched};
 ghost use Rattle.ssh_program.specs.Digests.{answer_where};
@@ -136,12 +136,12 @@ impl<'a> Model for Vouches<'a> {
 
 /// Whether a vouch file of these bytes lists a signature, or the number of its first line that is
 /// not a triple of key, message and signature.
-fn seek_held(bytes: &[u8], sought: Option<&Signed>) -> Result<Found, u64>
+fn seek_held(bytes: &[u8], wanted: Option<&Signed>) -> Result<Found, u64>
     requires { length bytes.now ≤ file_limit }
-    ensures { TellsOf (sought_of sought.entry) None bytes.now result }
+    ensures { TellsOf (wanted_of wanted.entry) None bytes.now result }
 {
     let mut file = MemoryFile::new(bytes);
-    match seek_vouched(&mut file, MEMORY_NAME, sought, None) {
+    match seek_vouched(&mut file, MEMORY_NAME, wanted, None) {
         Ok(reported) => reported,
         Err(_) => unreachable!(),
     }

@@ -91,20 +91,20 @@ known-whole form asking name file r few is =
 -- ---- one key
 
 pub known-key-next : (form : RecordForm) (asking : Asking) (name file : List ℕ) (number : ℕ) (line : List ℕ) (lines : List (ℕ × List ℕ)) (said : KnownLine) (old new : ForKey EarlierHosts) (before after : List ℕ) (line_reports : List LineReport) (reported : KeyCounts)
-    → new.sought.now ≡ old.sought.now → said ≡ known_line line → KnownKeyTells old form asking name file ((number, line) ∷ lines) line_reports
-    → ((hosts : List HostLine) → RemembersLines old.earlier hosts → after ≡ before ++ host_key_record old.sought.now form asking name hosts number line said)
-    → ((hosts : List HostLine) → RemembersLines old.earlier hosts → reported ≡ host_key_counts old.sought.now asking hosts line said)
+    → new.wanted.now ≡ old.wanted.now → said ≡ known_line line → KnownKeyTells old form asking name file ((number, line) ∷ lines) line_reports
+    → ((hosts : List HostLine) → RemembersLines old.earlier hosts → after ≡ before ++ host_key_record old.wanted.now form asking name hosts number line said)
+    → ((hosts : List HostLine) → RemembersLines old.earlier hosts → reported ≡ host_key_counts old.wanted.now asking hosts line said)
     → ((hosts : List HostLine) → RemembersLines old.earlier hosts → RemembersLines new.earlier (hosts ++ host_kept_of number line said))
     → (own : List ℕ) × (more : List LineReport) × (line_reports ≡ line_report own reported ∷ more) × KnownKeyTells new form asking name file lines more × (after ≡ before ++ own) × (IsWrittenInLines form → AreWholeLines before → AreWholeLines after)
 known-key-next form asking name file number line lines said old new before after line_reports reported same says h written counted stores =
-    let sought = old.sought.now in
+    let wanted = old.wanted.now in
     let left = h.before ++ host_kept_of number line (known_line line) in
-    let own = host_key_record sought form asking name h.before number line said in
-    let more = host_key_line_reports_of sought form asking name left lines in
-    let is : reported ≡ host_key_counts sought asking h.before line (known_line line) = counted h.before h.stored ∙ ap (host_key_counts sought asking h.before line) says in (
+    let own = host_key_record wanted form asking name h.before number line said in
+    let more = host_key_line_reports_of wanted form asking name left lines in
+    let is : reported ≡ host_key_counts wanted asking h.before line (known_line line) = counted h.before h.stored ∙ ap (host_key_counts wanted asking h.before line) says in (
       own,
       more,
-      h.are_reports ∙ (ap (λ (s : KnownLine). line_report (host_key_record sought form asking name h.before number line s) (host_key_counts sought asking h.before line (known_line line)) ∷ more) (sym says)
+      h.are_reports ∙ (ap (λ (s : KnownLine). line_report (host_key_record wanted form asking name h.before number line s) (host_key_counts wanted asking h.before line (known_line line)) ∷ more) (sym says)
           ∙ ap (λ (c : KeyCounts). line_report own c ∷ more) (sym is)),
       record {
         before = left;
@@ -112,15 +112,15 @@ known-key-next form asking name file number line lines said old new before after
         are_reports = ap (λ (k : List ℕ). host_key_line_reports_of k form asking name left lines) (sym same);
       },
       written h.before h.stored,
-      λ are. lines-on before own after (written h.before h.stored) (if-lines (host_holds_key old.sought.now line said) (host_line_record form asking name h.before number line said) (host-record-lines form asking name h.before number line said are)),
+      λ are. lines-on before own after (written h.before h.stored) (if-lines (host_holds_key old.wanted.now line said) (host_line_record form asking name h.before number line said) (host-record-lines form asking name h.before number line said are)),
     )
 
-pub known-key-fits : (sought : List ℕ) (asking : Asking) (file : List ℕ) → length file ≤ file_limit → AreCounts (host_key_counts_of sought asking [] (numbered 1 (lines_of file))).counts
-known-key-fits sought asking file h = few-counts _ (length (lines_of file)) (host-key-within sought asking [] 1 (lines_of file)) (few-lines file h)
+pub known-key-fits : (wanted : List ℕ) (asking : Asking) (file : List ℕ) → length file ≤ file_limit → AreCounts (host_key_counts_of wanted asking [] (numbered 1 (lines_of file))).counts
+known-key-fits wanted asking file h = few-counts _ (length (lines_of file)) (host-key-within wanted asking [] 1 (lines_of file)) (few-lines file h)
 
-pub known-key-whole : (sought : List ℕ) (form : Form) (asking : Asking) (name file : List ℕ) (r : KeyReview) → length file ≤ file_limit
-    → r ≡ reviewed_by form name file (host_key_records_of sought (AsLines form) asking name [] (numbered 1 (lines_of file))) (host_key_counts_of sought asking [] (numbered 1 (lines_of file)))
-    → r ≡ known_key_review sought form asking name file
+pub known-key-whole : (wanted : List ℕ) (form : Form) (asking : Asking) (name file : List ℕ) (r : KeyReview) → length file ≤ file_limit
+    → r ≡ reviewed_by form name file (host_key_records_of wanted (AsLines form) asking name [] (numbered 1 (lines_of file))) (host_key_counts_of wanted asking [] (numbered 1 (lines_of file)))
+    → r ≡ known_key_review wanted form asking name file
 unfolding host_whole_key_review
-known-key-whole sought form asking name file r few is =
-    is ∙ ap (λ (b : Bool). if b then key_fault_review form name TooLong else host_whole_key_review sought form asking name file) (sym (within-false (length file) few))
+known-key-whole wanted form asking name file r few is =
+    is ∙ ap (λ (b : Bool). if b then key_fault_review form name TooLong else host_whole_key_review wanted form asking name file) (sym (within-false (length file) few))

@@ -21,15 +21,15 @@ hosts-all-shown form asking name before [] = refl
 hosts-all-shown form asking name before (line ∷ lines) =
     ap (λ t. host_line_record form asking name before line.0 line.1 (known_line line.1) ++ t) (hosts-all-shown form asking name (before ++ host_kept_of line.0 line.1 (known_line line.1)) lines)
 
-pub key-all-shown : (sought : List ℕ) (form : RecordForm) (asking : Asking) (name : List ℕ) (held : List Held) (lines : List (ℕ × List ℕ)) → shown_records All (key_line_reports_of sought form asking name held lines) ≡ key_records_of sought form asking name held lines
-key-all-shown sought form asking name held [] = refl
-key-all-shown sought form asking name held (line ∷ lines) =
-    ap (λ t. key_record sought form asking name held line (auth_line line.1) ++ t) (key-all-shown sought form asking name (held ++ held_by_line asking (line.0, auth_line line.1)) lines)
+pub key-all-shown : (wanted : List ℕ) (form : RecordForm) (asking : Asking) (name : List ℕ) (held : List Held) (lines : List (ℕ × List ℕ)) → shown_records All (key_line_reports_of wanted form asking name held lines) ≡ key_records_of wanted form asking name held lines
+key-all-shown wanted form asking name held [] = refl
+key-all-shown wanted form asking name held (line ∷ lines) =
+    ap (λ t. key_record wanted form asking name held line (auth_line line.1) ++ t) (key-all-shown wanted form asking name (held ++ held_by_line asking (line.0, auth_line line.1)) lines)
 
-pub host-key-all-shown : (sought : List ℕ) (form : RecordForm) (asking : Asking) (name : List ℕ) (before : List HostLine) (lines : List (ℕ × List ℕ)) → shown_records All (host_key_line_reports_of sought form asking name before lines) ≡ host_key_records_of sought form asking name before lines
-host-key-all-shown sought form asking name before [] = refl
-host-key-all-shown sought form asking name before (line ∷ lines) =
-    ap (λ t. host_key_record sought form asking name before line.0 line.1 (known_line line.1) ++ t) (host-key-all-shown sought form asking name (before ++ host_kept_of line.0 line.1 (known_line line.1)) lines)
+pub host-key-all-shown : (wanted : List ℕ) (form : RecordForm) (asking : Asking) (name : List ℕ) (before : List HostLine) (lines : List (ℕ × List ℕ)) → shown_records All (host_key_line_reports_of wanted form asking name before lines) ≡ host_key_records_of wanted form asking name before lines
+host-key-all-shown wanted form asking name before [] = refl
+host-key-all-shown wanted form asking name before (line ∷ lines) =
+    ap (λ t. host_key_record wanted form asking name before line.0 line.1 (known_line line.1) ++ t) (host-key-all-shown wanted form asking name (before ++ host_kept_of line.0 line.1 (known_line line.1)) lines)
 
 -- the sums are those of the lines
 pub report-counts : (form : RecordForm) (asking : Asking) (name : List ℕ) (held : List Held) (lines : List (ℕ × List ℕ)) → of_all (counts_of asking held lines) ≡ report_counts (line_reports_of form asking name held lines)
@@ -42,15 +42,15 @@ hosts-report-counts form asking name before [] = refl
 hosts-report-counts form asking name before (line ∷ lines) =
     ap (plus_key (of_all (host_line_counts asking before line.1 (known_line line.1)))) (hosts-report-counts form asking name (before ++ host_kept_of line.0 line.1 (known_line line.1)) lines)
 
-pub key-report-counts : (sought : List ℕ) (form : RecordForm) (asking : Asking) (name : List ℕ) (held : List Held) (lines : List (ℕ × List ℕ)) → key_counts_of sought asking held lines ≡ report_counts (key_line_reports_of sought form asking name held lines)
-key-report-counts sought form asking name held [] = refl
-key-report-counts sought form asking name held (line ∷ lines) =
-    ap (plus_key (key_counts sought asking held line.1 (auth_line line.1))) (key-report-counts sought form asking name (held ++ held_by_line asking (line.0, auth_line line.1)) lines)
+pub key-report-counts : (wanted : List ℕ) (form : RecordForm) (asking : Asking) (name : List ℕ) (held : List Held) (lines : List (ℕ × List ℕ)) → key_counts_of wanted asking held lines ≡ report_counts (key_line_reports_of wanted form asking name held lines)
+key-report-counts wanted form asking name held [] = refl
+key-report-counts wanted form asking name held (line ∷ lines) =
+    ap (plus_key (key_counts wanted asking held line.1 (auth_line line.1))) (key-report-counts wanted form asking name (held ++ held_by_line asking (line.0, auth_line line.1)) lines)
 
-pub host-key-report-counts : (sought : List ℕ) (form : RecordForm) (asking : Asking) (name : List ℕ) (before : List HostLine) (lines : List (ℕ × List ℕ)) → host_key_counts_of sought asking before lines ≡ report_counts (host_key_line_reports_of sought form asking name before lines)
-host-key-report-counts sought form asking name before [] = refl
-host-key-report-counts sought form asking name before (line ∷ lines) =
-    ap (plus_key (host_key_counts sought asking before line.1 (known_line line.1))) (host-key-report-counts sought form asking name (before ++ host_kept_of line.0 line.1 (known_line line.1)) lines)
+pub host-key-report-counts : (wanted : List ℕ) (form : RecordForm) (asking : Asking) (name : List ℕ) (before : List HostLine) (lines : List (ℕ × List ℕ)) → host_key_counts_of wanted asking before lines ≡ report_counts (host_key_line_reports_of wanted form asking name before lines)
+host-key-report-counts wanted form asking name before [] = refl
+host-key-report-counts wanted form asking name before (line ∷ lines) =
+    ap (plus_key (host_key_counts wanted asking before line.1 (known_line line.1))) (host-key-report-counts wanted form asking name (before ++ host_kept_of line.0 line.1 (known_line line.1)) lines)
 
 -- the review of which all is shown is the review
 pub shown-all-auth : (form : Form) (asking : Asking) (name file : List ℕ) → shown_auth_review All form asking name file ≡ auth_review form asking name file

@@ -83,20 +83,20 @@ auth-whole form asking name file r few is =
 -- ---- one key
 
 pub auth-key-next : (form : RecordForm) (asking : Asking) (name file : List ℕ) (number : ℕ) (line : List ℕ) (lines : List (ℕ × List ℕ)) (said : AuthLine) (old new : ForKey Earlier) (before after : List ℕ) (line_reports : List LineReport) (reported : KeyCounts)
-    → new.sought.now ≡ old.sought.now → said ≡ auth_line line → AuthKeyTells old form asking name file ((number, line) ∷ lines) line_reports
-    → ((held : List Held) → RemembersEntries old.earlier held → after ≡ before ++ key_record old.sought.now form asking name held (number, line) said)
-    → ((held : List Held) → RemembersEntries old.earlier held → reported ≡ key_counts old.sought.now asking held line said)
+    → new.wanted.now ≡ old.wanted.now → said ≡ auth_line line → AuthKeyTells old form asking name file ((number, line) ∷ lines) line_reports
+    → ((held : List Held) → RemembersEntries old.earlier held → after ≡ before ++ key_record old.wanted.now form asking name held (number, line) said)
+    → ((held : List Held) → RemembersEntries old.earlier held → reported ≡ key_counts old.wanted.now asking held line said)
     → ((held : List Held) → RemembersEntries old.earlier held → RemembersEntries new.earlier (held ++ held_by_line asking (number, said)))
     → (own : List ℕ) × (more : List LineReport) × (line_reports ≡ line_report own reported ∷ more) × AuthKeyTells new form asking name file lines more × (after ≡ before ++ own) × (IsWrittenInLines form → AreWholeLines before → AreWholeLines after)
 auth-key-next form asking name file number line lines said old new before after line_reports reported same says h written counted stores =
-    let sought = old.sought.now in
+    let wanted = old.wanted.now in
     let left = h.held ++ held_by_line asking (number, auth_line line) in
-    let own = key_record sought form asking name h.held (number, line) said in
-    let more = key_line_reports_of sought form asking name left lines in
-    let is : reported ≡ key_counts sought asking h.held line (auth_line line) = counted h.held h.stored ∙ ap (key_counts sought asking h.held line) says in (
+    let own = key_record wanted form asking name h.held (number, line) said in
+    let more = key_line_reports_of wanted form asking name left lines in
+    let is : reported ≡ key_counts wanted asking h.held line (auth_line line) = counted h.held h.stored ∙ ap (key_counts wanted asking h.held line) says in (
       own,
       more,
-      h.are_reports ∙ (ap (λ (s : AuthLine). line_report (key_record sought form asking name h.held (number, line) s) (key_counts sought asking h.held line (auth_line line)) ∷ more) (sym says)
+      h.are_reports ∙ (ap (λ (s : AuthLine). line_report (key_record wanted form asking name h.held (number, line) s) (key_counts wanted asking h.held line (auth_line line)) ∷ more) (sym says)
           ∙ ap (λ (c : KeyCounts). line_report own c ∷ more) (sym is)),
       record {
         held = left;
@@ -104,15 +104,15 @@ auth-key-next form asking name file number line lines said old new before after 
         are_reports = ap (λ (k : List ℕ). key_line_reports_of k form asking name left lines) (sym same);
       },
       written h.held h.stored,
-      λ are. lines-on before own after (written h.held h.stored) (if-lines (holds_key old.sought.now line said) (line_record form asking name h.held (number, line) said) (record-lines form asking name h.held number line said are)),
+      λ are. lines-on before own after (written h.held h.stored) (if-lines (holds_key old.wanted.now line said) (line_record form asking name h.held (number, line) said) (record-lines form asking name h.held number line said are)),
     )
 
-pub auth-key-fits : (sought : List ℕ) (asking : Asking) (file : List ℕ) → length file ≤ file_limit → AreCounts (key_counts_of sought asking [] (numbered 1 (lines_of file))).counts
-auth-key-fits sought asking file h = few-counts _ (length (lines_of file)) (key-within sought asking [] 1 (lines_of file)) (few-lines file h)
+pub auth-key-fits : (wanted : List ℕ) (asking : Asking) (file : List ℕ) → length file ≤ file_limit → AreCounts (key_counts_of wanted asking [] (numbered 1 (lines_of file))).counts
+auth-key-fits wanted asking file h = few-counts _ (length (lines_of file)) (key-within wanted asking [] 1 (lines_of file)) (few-lines file h)
 
-pub auth-key-whole : (sought : List ℕ) (form : Form) (asking : Asking) (name file : List ℕ) (r : KeyReview) → length file ≤ file_limit
-    → r ≡ reviewed_by form name file (key_records_of sought (AsLines form) asking name [] (numbered 1 (lines_of file))) (key_counts_of sought asking [] (numbered 1 (lines_of file)))
-    → r ≡ auth_key_review sought form asking name file
+pub auth-key-whole : (wanted : List ℕ) (form : Form) (asking : Asking) (name file : List ℕ) (r : KeyReview) → length file ≤ file_limit
+    → r ≡ reviewed_by form name file (key_records_of wanted (AsLines form) asking name [] (numbered 1 (lines_of file))) (key_counts_of wanted asking [] (numbered 1 (lines_of file)))
+    → r ≡ auth_key_review wanted form asking name file
 unfolding whole_key_review
-auth-key-whole sought form asking name file r few is =
-    is ∙ ap (λ (b : Bool). if b then key_fault_review form name TooLong else whole_key_review sought form asking name file) (sym (within-false (length file) few))
+auth-key-whole wanted form asking name file r few is =
+    is ∙ ap (λ (b : Bool). if b then key_fault_review form name TooLong else whole_key_review wanted form asking name file) (sym (within-false (length file) few))

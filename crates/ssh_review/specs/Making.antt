@@ -82,12 +82,12 @@ pub record KnownTells (earlier : EarlierHosts) (form : RecordForm) (asking : Ask
 pub record AuthKeyTells (x : ForKey Earlier) (form : RecordForm) (asking : Asking) (name file : List ℕ) (lines : List (ℕ × List ℕ)) (line_reports : List LineReport) : Type 0 where
   pub held : List Held
   pub stored : RemembersEntries x.earlier held
-  pub are_reports : line_reports ≡ key_line_reports_of x.sought.now form asking name held lines
+  pub are_reports : line_reports ≡ key_line_reports_of x.wanted.now form asking name held lines
 
 pub record KnownKeyTells (x : ForKey EarlierHosts) (form : RecordForm) (asking : Asking) (name file : List ℕ) (lines : List (ℕ × List ℕ)) (line_reports : List LineReport) : Type 0 where
   pub before : List HostLine
   pub stored : RemembersLines x.earlier before
-  pub are_reports : line_reports ≡ host_key_line_reports_of x.sought.now form asking name before lines
+  pub are_reports : line_reports ≡ host_key_line_reports_of x.wanted.now form asking name before lines
 
 -- ---- the review
 

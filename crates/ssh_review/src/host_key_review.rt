@@ -38,13 +38,13 @@ fn read_facts(
     alloc: Global,
     line: &[u8],
     entry: &KnownEntryView<'_>,
-    sought: &[u8; 43],
+    wanted: &[u8; 43],
 ) -> Result<(HostFacts, bool), AllocError>
     ensures facts { IfOk result (λ r. r.0 ≡ host_facts_of line.now entry.now) }
-    ensures lists { IfOk result (λ r. r.1 ≡ lists_key sought.now entry.now.key) }
+    ensures lists { IfOk result (λ r. r.1 ≡ lists_key wanted.now entry.now.key) }
 {
     let facts = HostFacts::read(alloc, line, entry)?;
-    let lists = facts.fingerprint.as_slice() == sought.as_slice();
+    let lists = facts.fingerprint.as_slice() == wanted.as_slice();
     Ok((facts, lists))
 }
 
@@ -57,22 +57,22 @@ fn push_key_entry(
     place: &LineRef<'_>,
     line: &[u8],
     entry: &KnownEntryView<'_>,
-    sought: &[u8; 43],
+    wanted: &[u8; 43],
     earlier: &mut EarlierHosts,
     out: &mut Vec<u8>,
 ) -> Result<KeyCounts, AllocError>
     ensures text { OnOk result ((lines : List HostLine) → RemembersLines earlier.old lines
-        → out.new.items ≡ out.old.items ++ host_key_record sought.now form
+        → out.new.items ≡ out.old.items ++ host_key_record wanted.now form
         (asking_of asked.entry.now) place.entry.now.head.now lines place.entry.now.number line.now
         (KnownLine.Entry entry.now)) }
     ensures counts { IfOk result (λ reported. (lines : List HostLine) → RemembersLines earlier.old lines
-        → reported ≡ host_key_counts sought.now (asking_of asked.entry.now) lines line.now
+        → reported ≡ host_key_counts wanted.now (asking_of asked.entry.now) lines line.now
         (KnownLine.Entry entry.now)) }
     ensures kept { OnOk result ((lines : List HostLine) → RemembersLines earlier.old lines
         → RemembersLines earlier.new (lines ++ host_kept_of
         place.entry.now.number line.now (KnownLine.Entry entry.now))) }
 {
-    let (facts, stands) = read_facts(alloc, line, entry, sought)?;
+    let (facts, stands) = read_facts(alloc, line, entry, wanted)?;
     if stands {
         let mut others = DistinctKeys::new(alloc);
         let counts = push_entry_line(
@@ -102,23 +102,23 @@ fn push_key_revoked(
     place: &LineRef<'_>,
     line: &[u8],
     bytes: &[u8],
-    sought: &[u8; 43],
+    wanted: &[u8; 43],
     earlier: &mut EarlierHosts,
     out: &mut Vec<u8>,
 ) -> Result<KeyCounts, AllocError>
     ensures text { OnOk result ((lines : List HostLine) → RemembersLines earlier.old lines
-        → out.new.items ≡ out.old.items ++ host_key_record sought.now form
+        → out.new.items ≡ out.old.items ++ host_key_record wanted.now form
         (asking_of asked.entry.now) place.entry.now.head.now lines place.entry.now.number line.now
         (KnownLine.Revoked bytes.now)) }
     ensures counts { IfOk result (λ reported. (lines : List HostLine) → RemembersLines earlier.old lines
-        → reported ≡ host_key_counts sought.now (asking_of asked.entry.now) lines line.now
+        → reported ≡ host_key_counts wanted.now (asking_of asked.entry.now) lines line.now
         (KnownLine.Revoked bytes.now)) }
     ensures kept { OnOk result ((lines : List HostLine) → RemembersLines earlier.old lines
         → RemembersLines earlier.new (lines ++ host_kept_of
         place.entry.now.number line.now (KnownLine.Revoked bytes.now))) }
 {
     let fingerprint = print_of(alloc, bytes)?;
-    let stands = fingerprint.as_slice() == sought.as_slice();
+    let stands = fingerprint.as_slice() == wanted.as_slice();
     if stands {
         let counts = push_revoked_line(alloc, form, asked, place, line, bytes, earlier, out)?;
         Ok(KeyCounts { counts, stands })
@@ -136,17 +136,17 @@ fn push_key_blind(
     asked: &ReviewOptions<'_>,
     place: &LineRef<'_>,
     line: &[u8],
-    sought: &[u8; 43],
+    wanted: &[u8; 43],
     out: &mut Vec<u8>,
 ) -> Result<KeyCounts, AllocError>
-    ensures text { OnOk result (out.new.items ≡ out.old.items ++ host_key_record sought.now form
+    ensures text { OnOk result (out.new.items ≡ out.old.items ++ host_key_record wanted.now form
         (asking_of asked.entry.now) place.entry.now.head.now [] place.entry.now.number line.now
         KnownLine.RevokedUnreadable) }
-    ensures counts { IfOk result (λ reported. reported ≡ host_key_counts sought.now
+    ensures counts { IfOk result (λ reported. reported ≡ host_key_counts wanted.now
         (asking_of asked.entry.now) [] line.now KnownLine.RevokedUnreadable) }
 {
     let held = known_held_key(alloc, line)?;
-    let stands = recovers_key(held, sought);
+    let stands = recovers_key(held, wanted);
     if stands {
         let counts = push_blind_line(alloc, form, asked, place, line, out)?;
         Ok(KeyCounts { counts, stands })
@@ -163,17 +163,17 @@ fn push_key_unreadable(
     place: &LineRef<'_>,
     line: &[u8],
     cause: LineCause,
-    sought: &[u8; 43],
+    wanted: &[u8; 43],
     out: &mut Vec<u8>,
 ) -> Result<KeyCounts, AllocError>
-    ensures text { OnOk result (out.new.items ≡ out.old.items ++ host_key_record sought.now form
+    ensures text { OnOk result (out.new.items ≡ out.old.items ++ host_key_record wanted.now form
         (asking_of asked.entry.now) place.entry.now.head.now [] place.entry.now.number line.now
         (KnownLine.Unreadable cause)) }
-    ensures counts { IfOk result (λ reported. reported ≡ host_key_counts sought.now
+    ensures counts { IfOk result (λ reported. reported ≡ host_key_counts wanted.now
         (asking_of asked.entry.now) [] line.now (KnownLine.Unreadable cause)) }
 {
     let held = known_held_key(alloc, line)?;
-    let stands = recovers_key(held, sought);
+    let stands = recovers_key(held, wanted);
     if stands {
         let counts = push_unreadable_line(alloc, form, asked, place, line, cause, out)?;
         Ok(KeyCounts { counts, stands })
@@ -190,16 +190,16 @@ fn push_key_line(
     place: &LineRef<'_>,
     line: &[u8],
     view: &KnownLineView<'_>,
-    sought: &[u8; 43],
+    wanted: &[u8; 43],
     earlier: &mut EarlierHosts,
     out: &mut Vec<u8>,
 ) -> Result<KeyCounts, AllocError>
     ensures text { OnOk result ((lines : List HostLine) → RemembersLines earlier.old lines
-        → out.new.items ≡ out.old.items ++ host_key_record sought.now form
+        → out.new.items ≡ out.old.items ++ host_key_record wanted.now form
         (asking_of asked.entry.now) place.entry.now.head.now lines place.entry.now.number line.now
         (known_seen view.now)) }
     ensures counts { IfOk result (λ reported. (lines : List HostLine) → RemembersLines earlier.old lines
-        → reported ≡ host_key_counts sought.now (asking_of asked.entry.now) lines line.now
+        → reported ≡ host_key_counts wanted.now (asking_of asked.entry.now) lines line.now
         (known_seen view.now)) }
     ensures kept { OnOk result ((lines : List HostLine) → RemembersLines earlier.old lines
         → RemembersLines earlier.new (lines ++ host_kept_of
@@ -208,16 +208,16 @@ fn push_key_line(
     match view {
         KnownLineView::Blank | KnownLineView::Comment => Ok(KeyCounts::OTHER_LINE),
         KnownLineView::Entry(entry) => push_key_entry(
-            alloc, form, asked, place, line, entry, sought, earlier, out,
+            alloc, form, asked, place, line, entry, wanted, earlier, out,
         ),
         KnownLineView::Revoked(bytes) => push_key_revoked(
-            alloc, form, asked, place, line, bytes, sought, earlier, out,
+            alloc, form, asked, place, line, bytes, wanted, earlier, out,
         ),
         KnownLineView::RevokedUnreadable => {
-            push_key_blind(alloc, form, asked, place, line, sought, out)
+            push_key_blind(alloc, form, asked, place, line, wanted, out)
         }
         KnownLineView::Unreadable(cause) => push_key_unreadable(
-            alloc, form, asked, place, line, *cause, sought, out,
+            alloc, form, asked, place, line, *cause, wanted, out,
         ),
     }
 }
@@ -239,7 +239,7 @@ impl<'a> LineRecords for ForKey<'a, EarlierHosts> {
         out: &mut Vec<u8>,
     ) -> Result<KeyCounts, AllocError> {
         let view = read_known_view(line, buffer);
-        let sought = self.sought;
+        let wanted = self.wanted;
         let reported = push_key_line(
             alloc,
             form,
@@ -247,7 +247,7 @@ impl<'a> LineRecords for ForKey<'a, EarlierHosts> {
             place,
             line,
             &view,
-            sought,
+            wanted,
             &mut self.earlier,
             out,
         )?;
@@ -262,16 +262,16 @@ impl<'a> LineRecords for ForKey<'a, EarlierHosts> {
 pub fn known_key_records<'a>(
     alloc: Global,
     file: &'a [u8],
-    sought: &'a [u8; 43],
+    wanted: &'a [u8; 43],
 ) -> Records<'a, ForKey<'a, EarlierHosts>>
     requires { length file.now ≤ file_limit }
     ensures { (form : RecordFormValue) (asking : Asking) (head : List ℕ)
         → HasLeft KnownKeyTells All form asking head file.now
-        (host_key_records_of sought.now form asking head [] (numbered 1 (lines_of file.now)))
-        (host_key_counts_of sought.now asking [] (numbered 1 (lines_of file.now))) result }
+        (host_key_records_of wanted.now form asking head [] (numbered 1 (lines_of file.now)))
+        (host_key_counts_of wanted.now asking [] (numbered 1 (lines_of file.now))) result }
 {
     let earlier = EarlierHosts::new(alloc);
-    Records::new(file, ForKey { sought, earlier })
+    Records::new(file, ForKey { wanted, earlier })
 }
 
 /// The review of a `known_hosts` file for the key with this fingerprint, which is the base64 after
@@ -285,15 +285,15 @@ pub fn review_known_key(
     asked: &ReviewOptions<'_>,
     head: &[u8],
     file: &[u8],
-    sought: &[u8; 43],
+    wanted: &[u8; 43],
 ) -> Result<KeyReviewed, AllocError>
     ensures { IfOk result (λ r. key_review r
-        ≡ known_key_review sought.now form (asking_of asked.entry.now) head.now file.now) }
+        ≡ known_key_review wanted.now form (asking_of asked.entry.now) head.now file.now) }
 {
     if file.len() > FILE_LIMIT {
         review_key_fault(alloc, form, head, FileFault::TooLong)
     } else {
-        let begun = known_key_records(alloc, file, sought);
+        let begun = known_key_records(alloc, file, wanted);
         let whole = whole_review(alloc, form, asked, head, file, begun)?;
         Ok(whole)
     }

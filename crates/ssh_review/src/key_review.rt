@@ -29,7 +29,7 @@ use ssh_text::FILE_LIMIT;
 use std::alloc::{AllocError, Global};
 
 /// The counts of the records that are made, with the number of all lines, and whether some line holds
-/// the key, where one is sought.
+/// the key, where one is wanted.
 #[derive(Clone, Copy, Debug)]
 pub struct KeyCounts {
     pub counts: Counts,
@@ -70,12 +70,12 @@ pub struct KeyReviewed {
 }
 
 /// Whether there is a recovered key, and it has this fingerprint.
-pub(crate) fn recovers_key(held: Option<HeldKey>, sought: &[u8; 43]) -> bool
-    ensures { result ≡ recovers_key sought.now held }
+pub(crate) fn recovers_key(held: Option<HeldKey>, wanted: &[u8; 43]) -> bool
+    ensures { result ≡ recovers_key wanted.now held }
 {
     match held {
         None => false,
-        Some(held) => held.fingerprint.as_slice() == sought.as_slice(),
+        Some(held) => held.fingerprint.as_slice() == wanted.as_slice(),
     }
 }
 
@@ -85,14 +85,14 @@ fn read_facts(
     alloc: Global,
     asked: &ReviewOptions<'_>,
     entry: &AuthEntryView<'_>,
-    sought: &[u8; 43],
+    wanted: &[u8; 43],
 ) -> Result<(Facts, bool), AllocError>
     ensures facts { IfOk result
         (λ r. r.0 ≡ facts_of (asking_of asked.entry.now).zone entry.now) }
-    ensures lists { IfOk result (λ r. r.1 ≡ lists_key sought.now entry.now.key) }
+    ensures lists { IfOk result (λ r. r.1 ≡ lists_key wanted.now entry.now.key) }
 {
     let facts = Facts::read(alloc, asked.zone, entry)?;
-    let lists = facts.fingerprint.as_slice() == sought.as_slice();
+    let lists = facts.fingerprint.as_slice() == wanted.as_slice();
     Ok((facts, lists))
 }
 
@@ -104,21 +104,21 @@ fn push_key_entry(
     asked: &ReviewOptions<'_>,
     place: &LineRef<'_>,
     entry: &AuthEntryView<'_>,
-    sought: &[u8; 43],
+    wanted: &[u8; 43],
     earlier: &mut Earlier,
     out: &mut Vec<u8>,
 ) -> Result<KeyCounts, AllocError>
     ensures text { OnOk result ((held : List Held) → RemembersEntries earlier.old held
-        → out.new.items ≡ out.old.items ++ key_record sought.now form (asking_of asked.entry.now)
+        → out.new.items ≡ out.old.items ++ key_record wanted.now form (asking_of asked.entry.now)
         place.entry.now.head.now held (place.entry.now.number, []) (AuthLine.Entry entry.now)) }
     ensures counts { IfOk result (λ reported. (held : List Held) → RemembersEntries earlier.old held
-        → reported ≡ key_counts sought.now (asking_of asked.entry.now) held []
+        → reported ≡ key_counts wanted.now (asking_of asked.entry.now) held []
         (AuthLine.Entry entry.now)) }
     ensures kept { OnOk result ((held : List Held) → RemembersEntries earlier.old held
         → RemembersEntries earlier.new (held ++ held_by_line
         (asking_of asked.entry.now) (place.entry.now.number, AuthLine.Entry entry.now))) }
 {
-    let (facts, stands) = read_facts(alloc, asked, entry, sought)?;
+    let (facts, stands) = read_facts(alloc, asked, entry, wanted)?;
     if stands {
         let mut others = DistinctKeys::new(alloc);
         let counts = push_entry_line(alloc, form, asked, place, entry, earlier, &mut others, out)?;
@@ -137,17 +137,17 @@ fn push_key_unreadable(
     place: &LineRef<'_>,
     line: &[u8],
     cause: LineCause,
-    sought: &[u8; 43],
+    wanted: &[u8; 43],
     out: &mut Vec<u8>,
 ) -> Result<KeyCounts, AllocError>
-    ensures text { OnOk result (out.new.items ≡ out.old.items ++ key_record sought.now form
+    ensures text { OnOk result (out.new.items ≡ out.old.items ++ key_record wanted.now form
         (asking_of asked.entry.now) place.entry.now.head.now [] (place.entry.now.number, line.now)
         (AuthLine.Unreadable cause)) }
-    ensures counts { IfOk result (λ reported. reported ≡ key_counts sought.now (asking_of asked.entry.now)
+    ensures counts { IfOk result (λ reported. reported ≡ key_counts wanted.now (asking_of asked.entry.now)
         [] line.now (AuthLine.Unreadable cause)) }
 {
     let held = held_key(alloc, line)?;
-    let stands = recovers_key(held, sought);
+    let stands = recovers_key(held, wanted);
     if stands {
         let counts = push_unreadable_line(alloc, form, asked, place, line, cause, out)?;
         Ok(KeyCounts { counts, stands })
@@ -164,15 +164,15 @@ fn push_key_line(
     place: &LineRef<'_>,
     line: &[u8],
     view: &AuthLineView<'_>,
-    sought: &[u8; 43],
+    wanted: &[u8; 43],
     earlier: &mut Earlier,
     out: &mut Vec<u8>,
 ) -> Result<KeyCounts, AllocError>
     ensures text { OnOk result ((held : List Held) → RemembersEntries earlier.old held
-        → out.new.items ≡ out.old.items ++ key_record sought.now form (asking_of asked.entry.now)
+        → out.new.items ≡ out.old.items ++ key_record wanted.now form (asking_of asked.entry.now)
         place.entry.now.head.now held (place.entry.now.number, line.now) (line_seen view.now)) }
     ensures counts { IfOk result (λ reported. (held : List Held) → RemembersEntries earlier.old held
-        → reported ≡ key_counts sought.now (asking_of asked.entry.now) held line.now
+        → reported ≡ key_counts wanted.now (asking_of asked.entry.now) held line.now
         (line_seen view.now)) }
     ensures kept { OnOk result ((held : List Held) → RemembersEntries earlier.old held
         → RemembersEntries earlier.new (held ++ held_by_line
@@ -181,10 +181,10 @@ fn push_key_line(
     match view {
         AuthLineView::Blank | AuthLineView::Comment => Ok(KeyCounts::OTHER_LINE),
         AuthLineView::Entry(entry) => push_key_entry(
-            alloc, form, asked, place, entry, sought, earlier, out,
+            alloc, form, asked, place, entry, wanted, earlier, out,
         ),
         AuthLineView::Unreadable(cause) => push_key_unreadable(
-            alloc, form, asked, place, line, *cause, sought, out,
+            alloc, form, asked, place, line, *cause, wanted, out,
         ),
     }
 }
@@ -206,7 +206,7 @@ impl<'a> LineRecords for ForKey<'a, Earlier> {
         out: &mut Vec<u8>,
     ) -> Result<KeyCounts, AllocError> {
         let view = read_auth_view(line, buffer);
-        let sought = self.sought;
+        let wanted = self.wanted;
         let reported = push_key_line(
             alloc,
             form,
@@ -214,7 +214,7 @@ impl<'a> LineRecords for ForKey<'a, Earlier> {
             place,
             line,
             &view,
-            sought,
+            wanted,
             &mut self.earlier,
             out,
         )?;
@@ -229,16 +229,16 @@ impl<'a> LineRecords for ForKey<'a, Earlier> {
 pub fn auth_key_records<'a>(
     alloc: Global,
     file: &'a [u8],
-    sought: &'a [u8; 43],
+    wanted: &'a [u8; 43],
 ) -> Records<'a, ForKey<'a, Earlier>>
     requires { length file.now ≤ file_limit }
     ensures { (form : RecordFormValue) (asking : Asking) (head : List ℕ)
         → HasLeft AuthKeyTells All form asking head file.now
-        (key_records_of sought.now form asking head [] (numbered 1 (lines_of file.now)))
-        (key_counts_of sought.now asking [] (numbered 1 (lines_of file.now))) result }
+        (key_records_of wanted.now form asking head [] (numbered 1 (lines_of file.now)))
+        (key_counts_of wanted.now asking [] (numbered 1 (lines_of file.now))) result }
 {
     let earlier = Earlier::new(alloc);
-    Records::new(file, ForKey { sought, earlier })
+    Records::new(file, ForKey { wanted, earlier })
 }
 
 /// The review of a file with these records, of which these are the counts: they are followed by the
@@ -293,15 +293,15 @@ pub fn review_auth_key(
     asked: &ReviewOptions<'_>,
     head: &[u8],
     file: &[u8],
-    sought: &[u8; 43],
+    wanted: &[u8; 43],
 ) -> Result<KeyReviewed, AllocError>
     ensures { IfOk result (λ r. key_review r
-        ≡ auth_key_review sought.now form (asking_of asked.entry.now) head.now file.now) }
+        ≡ auth_key_review wanted.now form (asking_of asked.entry.now) head.now file.now) }
 {
     if file.len() > FILE_LIMIT {
         review_key_fault(alloc, form, head, FileFault::TooLong)
     } else {
-        let begun = auth_key_records(alloc, file, sought);
+        let begun = auth_key_records(alloc, file, wanted);
         let whole = whole_review(alloc, form, asked, head, file, begun)?;
         Ok(whole)
     }

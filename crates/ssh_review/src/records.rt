@@ -73,7 +73,7 @@ pub trait LineRecords {
 /// the base64 of its fingerprint, and what the review of all keys stores.
 #[derive(Drop)]
 pub struct ForKey<'a, E> {
-    pub(crate) sought: &'a [u8; 43],
+    pub(crate) wanted: &'a [u8; 43],
     pub(crate) earlier: E,
 }
 

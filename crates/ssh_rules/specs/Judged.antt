@@ -26,5 +26,5 @@ pub record IsPlainlyJudged (c : Certificate) : Type 0 where
   pub nameless : c.principals ≡ []
 
 -- a plain key, or such a certificate
-abbrev pub IsPlainlySought : Offer → Type 0
-IsPlainlySought offer = OfCertificate IsPlainlyJudged offer
+abbrev pub IsPlainOffer : Offer → Type 0
+IsPlainOffer offer = OfCertificate IsPlainlyJudged offer

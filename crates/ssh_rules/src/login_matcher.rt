@@ -7,7 +7,7 @@ ghost use Rattle.ssh_keys.specs.PublicKey.{key_blob};
 ghost use Rattle.ssh_entries.specs.AuthGrammar.{auth_line};
 ghost use Rattle.ssh_offers.specs.ClaimViews.{claim_of};
 ghost use Rattle.ssh_offers.specs.Offer.{subject};
-ghost use Rattle.ssh_rules.specs.Judged.{IsPlainlySought, judged_of};
+ghost use Rattle.ssh_rules.specs.Judged.{IsPlainOffer, judged_of};
 ghost use Rattle.ssh_rules.specs.Verdict.{login_verdict};
 
 use crate::certificate::CheckedCertificate;
@@ -126,7 +126,7 @@ impl<'a> LoginMatcher<'a> {
         ensures value { IfOk result (λ matcher. matcher ≡ claim_of claim.now) }
         // A plain key allocates nothing, and neither does a certificate without principals whose
         // critical options are all supported.
-        ensures spare { IsPlainlySought (claim_of claim.now).offer → IsOk result }
+        ensures spare { IsPlainOffer (claim_of claim.now).offer → IsOk result }
     {
         let checked_certificate = match &claim.offer {
             Offer::Plain(_) => None,

@@ -165,7 +165,7 @@ fn take_verdict(
 }
 
 /// The matcher of a claim; a failed allocation is `A8`.
-fn sought_of<'a>(alloc: Global, claim: &HostClaimView<'a>) -> Result<HostMatcher<'a>, AuditError>
+fn matcher_of<'a>(alloc: Global, claim: &HostClaimView<'a>) -> Result<HostMatcher<'a>, AuditError>
     ensures value { IfOk result (λ matcher. matcher ≡ host_claim_of claim.now) }
     ensures memory { OnErr result (result ≡ Err Memory) }
 {
@@ -209,7 +209,7 @@ impl<'a> Matcher for HostMatcher<'a> {
 
     fn read(alloc: Global, query: &HostQuery<'a>) -> Result<HostMatcher<'a>, AuditError> {
         let claim = HostClaimView::read(query)?;
-        sought_of(alloc, &claim)
+        matcher_of(alloc, &claim)
     }
 
     fn initial_state(&self, alloc: Global) -> HostScan {

@@ -122,7 +122,7 @@ fn is_passed_over(matcher: &LoginMatcher<'_>, line: Line<'_>, state: &Scan<Candi
 }
 
 /// The matcher of a claim; a failed allocation is `A8`.
-fn sought_of<'a>(alloc: Global, claim: &LoginClaimView<'a>) -> Result<LoginMatcher<'a>, AuditError>
+fn matcher_of<'a>(alloc: Global, claim: &LoginClaimView<'a>) -> Result<LoginMatcher<'a>, AuditError>
     ensures value { IfOk result (λ matcher. matcher ≡ claim_of claim.now) }
     ensures memory { OnErr result (result ≡ Err Memory) }
 {
@@ -164,7 +164,7 @@ impl<'a> Matcher for LoginMatcher<'a> {
 
     fn read(alloc: Global, query: &LoginQuery<'a>) -> Result<LoginMatcher<'a>, AuditError> {
         let claim = LoginClaimView::read(query)?;
-        sought_of(alloc, &claim)
+        matcher_of(alloc, &claim)
     }
 
     fn initial_state(&self, alloc: Global) -> Scan<Candidate> {

@@ -9,7 +9,7 @@ use Rattle.ssh_program.proofs.key_seeking.seek_offer.Goals as goal
 
 pub returns-in-Ok : goal.returns-in-Ok
 returns-in-Ok g c =
-    subst (λ (sought : List ℕ). IfTells (g.F.Files.source_state c.args.files.now) (λ s. WritesAnswer (SeeksKey c.args.kind c.args.form c.args.rule.now (asking_of c.args.asked.now) (names_seen c.args.names) sought s
+    subst (λ (wanted : List ℕ). IfTells (g.F.Files.source_state c.args.files.now) (λ s. WritesAnswer (SeeksKey c.args.kind c.args.form c.args.rule.now (asking_of c.args.asked.now) (names_seen c.args.names) wanted s
     (g.F.Files.source_state c.seek_key.new.files)) (g.W.Sink.account c.args.writer.now) (g.W.Sink.account c.seek_key.new.writer) c.seek_key.result))
     c.in-Ok.ensures c.seek_key.ensures
 

@@ -12,7 +12,7 @@ use Rattle.ssh_program.proofs.key_seeking.tell_files.Goals as goal
 pub returns-in_err-put_first_lines-clause-reported : goal.returns-in_err-put_first_lines-clause-reported
 returns-in_err-put_first_lines-clause-reported g c =
     let p = err_from_is_err_and c.from_residual.result c.from_residual.ensures.1 in
-    rw (p.1, p.2) (before_stopped (Unit {0}) with_key_file (telling_key_review c.args.sought.now c.args.kind c.args.form (asking_of c.args.asked.now)) c.args.form (key_lines_before c.args.form) (λ reported. reported.lines.text) (λ r. r.file.text) key_total (names_seen c.args.names)
+    rw (p.1, p.2) (before_stopped (Unit {0}) with_key_file (telling_key_review c.args.wanted.now c.args.kind c.args.form (asking_of c.args.asked.now)) c.args.form (key_lines_before c.args.form) (λ reported. reported.lines.text) (λ r. r.file.text) key_total (names_seen c.args.names)
     (g.F.Files.source_state c.args.files.now) (g.F.Files.source_state c.args.files.now) (g.W.Sink.account c.args.writer.now) (g.W.Sink.account c.put_first_lines.new.writer) _ refl c.in_err-put_first_lines.ensures.put)
 
 pub returns-in_err-put_first_lines-clause-failed : goal.returns-in_err-put_first_lines-clause-failed
@@ -23,7 +23,7 @@ returns-in_err-put_first_lines-clause-failed g c =
 pub returns-in_err-buffer-clause-reported : goal.returns-in_err-buffer-clause-reported
 returns-in_err-buffer-clause-reported g c =
     let p = err_from_is_err_and c.from_residual-in_err-buffer.result c.from_residual-in_err-buffer.ensures.1 in
-    rw (p.1, p.2) (first_stopped with_key_file (telling_key_review c.args.sought.now c.args.kind c.args.form (asking_of c.args.asked.now)) (key_lines_before c.args.form) (λ reported. reported.lines.text) (λ r. r.file.text) key_total (names_seen c.args.names)
+    rw (p.1, p.2) (first_stopped with_key_file (telling_key_review c.args.wanted.now c.args.kind c.args.form (asking_of c.args.asked.now)) (key_lines_before c.args.form) (λ reported. reported.lines.text) (λ r. r.file.text) key_total (names_seen c.args.names)
     (g.F.Files.source_state c.args.files.now) (g.F.Files.source_state c.args.files.now) (g.W.Sink.account c.args.writer.now) (g.W.Sink.account c.put_first_lines.new.writer) c.in_ok-put_first_lines.ensures.put)
 
 pub returns-in_err-buffer-clause-failed : goal.returns-in_err-buffer-clause-failed
@@ -33,7 +33,7 @@ returns-in_err-buffer-clause-failed g c =
 pub loop-word-init : goal.loop-word-init
 loop-word-init g c = (
   c.in_ok-put_first_lines.ensures.failed,
-  written_first with_key_file (telling_key_review c.args.sought.now c.args.kind c.args.form (asking_of c.args.asked.now)) (key_lines_before c.args.form) (λ reported. reported.lines.text) key_total (names_seen c.args.names)
+  written_first with_key_file (telling_key_review c.args.wanted.now c.args.kind c.args.form (asking_of c.args.asked.now)) (key_lines_before c.args.form) (λ reported. reported.lines.text) key_total (names_seen c.args.names)
       (g.F.Files.source_state c.args.files.now) (g.W.Sink.account c.args.writer.now) (g.W.Sink.account c.put_first_lines.new.writer) c.in_ok-put_first_lines.ensures.put,
 )
 
@@ -41,7 +41,7 @@ pub loop-word-preserved : goal.loop-word-preserved
 loop-word-preserved g c =
     let x : FileReported = c.in_ok-reported.reported in (
       c.in_ok-reported.ensures.failed,
-      written_reported with_key_file (telling_key_review c.args.sought.now c.args.kind c.args.form (asking_of c.args.asked.now)) (key_lines_before c.args.form) (λ reported. reported.lines.text) (λ r. r.file.text) key_total key_review_kept (names_seen c.args.names) _
+      written_reported with_key_file (telling_key_review c.args.wanted.now c.args.kind c.args.form (asking_of c.args.asked.now)) (key_lines_before c.args.form) (λ reported. reported.lines.text) (λ r. r.file.text) key_total key_review_kept (names_seen c.args.names) _
           (map (λ word. named c.args.names.naming word.now) (drop c.loop-word.word-index c.args.names.words.now)) (map (λ word. named c.args.names.naming word.now) (drop (c.loop-word.word-index + 1) c.args.names.words.now))
           (g.F.Files.source_state c.args.files.now) (g.F.Files.source_state c.loop-word.files) (g.F.Files.source_state c.put_file.new.files)
           (g.W.Sink.account c.args.writer.now) (g.W.Sink.account c.loop-word.writer) (g.W.Sink.account c.put_file.new.writer)
@@ -58,7 +58,7 @@ loop-word-preserved g c =
 pub returns-in_err-reported-clause-reported : goal.returns-in_err-reported-clause-reported
 returns-in_err-reported-clause-reported g c =
     let p = err_from_is_err_and c.from_residual-in_err-reported.result c.from_residual-in_err-reported.ensures.1 in
-    rw (p.1, p.2) (written_stopped with_key_file (telling_key_review c.args.sought.now c.args.kind c.args.form (asking_of c.args.asked.now)) (key_lines_before c.args.form) (λ reported. reported.lines.text) (λ r. r.file.text) key_total key_review_kept (names_seen c.args.names) _
+    rw (p.1, p.2) (written_stopped with_key_file (telling_key_review c.args.wanted.now c.args.kind c.args.form (asking_of c.args.asked.now)) (key_lines_before c.args.form) (λ reported. reported.lines.text) (λ r. r.file.text) key_total key_review_kept (names_seen c.args.names) _
     (map (λ word. named c.args.names.naming word.now) (drop c.loop-word.word-index c.args.names.words.now)) (map (λ word. named c.args.names.naming word.now) (drop (c.loop-word.word-index + 1) c.args.names.words.now))
     (g.F.Files.source_state c.args.files.now) (g.F.Files.source_state c.loop-word.files) (g.F.Files.source_state c.put_file.new.files)
     (g.W.Sink.account c.args.writer.now) (g.W.Sink.account c.loop-word.writer) (g.W.Sink.account c.put_file.new.writer)
@@ -73,7 +73,7 @@ returns-in_err-reported-clause-failed g c =
 
 pub returns-clause-reported : goal.returns-clause-reported
 returns-clause-reported g c =
-    written_last with_key_file (telling_key_review c.args.sought.now c.args.kind c.args.form (asking_of c.args.asked.now)) (key_lines_before c.args.form) (λ reported. reported.lines.text) (λ r. r.file.text) key_total (names_seen c.args.names)
+    written_last with_key_file (telling_key_review c.args.wanted.now c.args.kind c.args.form (asking_of c.args.asked.now)) (key_lines_before c.args.form) (λ reported. reported.lines.text) (λ r. r.file.text) key_total (names_seen c.args.names)
     (map (λ word. named c.args.names.naming word.now) (drop c.loop-word.word-index c.args.names.words.now))
     (g.F.Files.source_state c.args.files.now) (g.F.Files.source_state c.loop-word.files) (g.W.Sink.account c.args.writer.now) (g.W.Sink.account c.loop-word.writer) (record { total = c.loop-word.total; stands = c.loop-word.stands })
     (ap (map (λ word. named c.args.names.naming word.now)) (drop_all c.loop-word.word-index c.args.names.words.now c.loop-word-test.false)) c.loop-word.invariant.1

@@ -1,10 +1,10 @@
 use Rattle.ssh_program.proofs.Imports.{response}
-use Rattle.ssh_program.proofs.VouchingLemmas.{again_unread, faulty_responds, sought_responds}
+use Rattle.ssh_program.proofs.VouchingLemmas.{again_unread, faulty_responds, wanted_responds}
 use Rattle.ssh_program.proofs.vouching.respond_again.Goals as goal
 
 pub returns-in-Ok-Ok : goal.returns-in-Ok-Ok
 returns-in-Ok-Ok g c =
-    sought_responds response c.args.name.now c.args.signed c.in-Ok-Ok.found
+    wanted_responds response c.args.name.now c.args.signed c.in-Ok-Ok.found
     (g.F.Files.source_state c.args.files.now) (g.F.Files.source_state c.seek_vouched.new.files) c.respond_by.result
     (rw c.in-Ok-Ok.field-0-is at c.in-Ok-Ok.ensures.bytes) c.respond_by.ensures
 

@@ -12,9 +12,9 @@ pub returns : goal.returns
 returns c =
     λ form asking name.
     let file = c.args.file.now in
-    let sought = c.args.sought.now in
+    let wanted = c.args.wanted.now in
     let lines = numbered 1 (lines_of file) in
-    first-left KnownKeyTells All form asking name file (host_key_records_of sought form asking name [] lines) (host_key_counts_of sought asking [] lines) _ lines (host_key_line_reports_of sought form asking name [] lines) c.new.result
-    c.new.ensures.earlier (ap (λ s. numbered s.0 (lines_of s.1)) c.new.ensures.lines) c.new.ensures.reported (known-key-fits sought asking file c.requires)
+    first-left KnownKeyTells All form asking name file (host_key_records_of wanted form asking name [] lines) (host_key_counts_of wanted asking [] lines) _ lines (host_key_line_reports_of wanted form asking name [] lines) c.new.result
+    c.new.ensures.earlier (ap (λ s. numbered s.0 (lines_of s.1)) c.new.ensures.lines) c.new.ensures.reported (known-key-fits wanted asking file c.requires)
     (record { before = []; stored = c.new-earlier.ensures.stands; are_reports = refl })
-    (sym (host-key-all-shown sought form asking name [] lines)) (host-key-report-counts sought form asking name [] lines)
+    (sym (host-key-all-shown wanted form asking name [] lines)) (host-key-report-counts wanted form asking name [] lines)

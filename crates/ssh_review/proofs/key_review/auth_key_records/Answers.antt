@@ -12,9 +12,9 @@ pub returns : goal.returns
 returns c =
     λ form asking name.
     let file = c.args.file.now in
-    let sought = c.args.sought.now in
+    let wanted = c.args.wanted.now in
     let lines = numbered 1 (lines_of file) in
-    first-left AuthKeyTells All form asking name file (key_records_of sought form asking name [] lines) (key_counts_of sought asking [] lines) _ lines (key_line_reports_of sought form asking name [] lines) c.new.result
-    c.new.ensures.earlier (ap (λ s. numbered s.0 (lines_of s.1)) c.new.ensures.lines) c.new.ensures.reported (auth-key-fits sought asking file c.requires)
+    first-left AuthKeyTells All form asking name file (key_records_of wanted form asking name [] lines) (key_counts_of wanted asking [] lines) _ lines (key_line_reports_of wanted form asking name [] lines) c.new.result
+    c.new.ensures.earlier (ap (λ s. numbered s.0 (lines_of s.1)) c.new.ensures.lines) c.new.ensures.reported (auth-key-fits wanted asking file c.requires)
     (record { held = []; stored = c.new-earlier.ensures.stands; are_reports = refl })
-    (sym (key-all-shown sought form asking name [] lines)) (key-report-counts sought form asking name [] lines)
+    (sym (key-all-shown wanted form asking name [] lines)) (key-report-counts wanted form asking name [] lines)

@@ -5,5 +5,5 @@ use Rattle.ssh_review.proofs.key_review.review_auth_key.Goals as goal
 
 pub returns-in_ok-whole : goal.returns-in_ok-whole
 returns-in_ok-whole c =
-    auth-key-whole c.args.sought.now c.args.form (asking_of c.args.asked.now) c.args.head.now c.args.file.now (key_review c.in_ok-whole.whole) c.if-file-gt-FILE_LIMIT.false
+    auth-key-whole c.args.wanted.now c.args.form (asking_of c.args.asked.now) c.args.head.now c.args.file.now (key_review c.in_ok-whole.whole) c.if-file-gt-FILE_LIMIT.false
     (c.in_ok-whole.ensures _ _ (c.auth_key_records-begun.ensures (AsLines c.args.form) (asking_of c.args.asked.now) c.args.head.now))

@@ -1,6 +1,6 @@
 use Rattle.ssh_program.proofs.Imports.{files_seen, response, TellsOf, first_resting, second_resting}
 use Rattle.ssh_program.proofs.AuditLemmas.{vouch_responds, vouch_unread}
-use Rattle.ssh_program.proofs.audit.respond_sought.Goals as goal
+use Rattle.ssh_program.proofs.audit.respond_wanted.Goals as goal
 
 pub returns-in-Ok : goal.returns-in-Ok
 returns-in-Ok g c =
