@@ -68,11 +68,19 @@ return {
     groups: [...document.querySelectorAll('#mend>h3')].map(h => [h.className, text(h), [...h.nextElementSibling.nextElementSibling.children].map(e =>
         e.localName == 'dt' ? [text(e.querySelector('.cd')), text(e.querySelector('.n')), e.querySelector('svg').getAttribute('viewBox'), e.querySelector('rect').getAttribute('width'), text(e.querySelector('.mean'))] : text(e.firstElementChild))]),
     places: [...document.querySelectorAll('#mend dd')].map(d => [text(d.previousElementSibling.querySelector('.cd')), [...d.children].slice(1).map(p => [p.className, text(p)]), [...d.querySelectorAll('.places>a')].map(a => [a.getAttribute('href'), text(a.querySelector('code')), text(a)])]),
-    keys: [...document.querySelectorAll('#keys>article')].map(a => [a.id, text(a.querySelector('h3>code')), text(a.querySelector('samp')), text(a.querySelector('p')), [...a.querySelectorAll('.places>a')].map(l => [l.getAttribute('href'), text(l.querySelector('code')), text(l)])]),
+    keys: [...document.querySelectorAll('#keys>article')].map(a => [a.id, text(a.querySelector('h3>code')), text(a.querySelector('samp')), text(a.querySelector('p')), [...a.querySelectorAll('.places>a')].map(l => [l.getAttribute('href'), text(l.querySelector('code')), text(l), l.nextElementSibling?.localName == 'i'])]),
     picture: [...document.querySelectorAll('#keys>.mx>tbody>tr')].map(r => [r.querySelector('a').getAttribute('href'), text(r.querySelector('code')), text(r.cells[1]), r.querySelector('svg').getAttribute('viewBox'), r.querySelector('path').getAttribute('d')]),
+    choices: [...document.querySelectorAll('#lines>input')].map(i => [i.id, i.name, i.checked, i.nextElementSibling.htmlFor, text(i.nextElementSibling)]),
     keys_say: [...document.querySelectorAll('#keys>p')].map(text),
     rest: [...document.querySelectorAll('#mend>p')].filter(p => p.className != 'says' || p.previousElementSibling.localName != 'h3').map(text), absent: [...document.querySelectorAll('#mend>ul>li')].map(text),
 };})()"""
+# The lines that each choice leaves on the screen.
+CHOOSE = """(() => {
+const shown = e => getComputedStyle(e).display != 'none';
+return [...document.querySelectorAll('#lines>input')].reverse().map(i => {
+    i.checked = true;
+    return [i.id, [...document.querySelectorAll('section.fl')].filter(shown).flatMap(s => [...s.querySelectorAll('tr.ln')].filter(shown).map(r => r.id))];
+});})()"""
 # The least contrast of a text with its ground, as WCAG 2.2 has it, and which text that is.
 CONTRAST = """(() => {
 const light = c => { const v = c.map(x => x / 255).map(x => x <= .04045 ? x / 12.92 : ((x + .055) / 1.055) ** 2.4); return .2126 * v[0] + .7152 * v[1] + .0722 * v[2]; };
@@ -222,6 +230,11 @@ def wrong_places(read):
             yield code, links, wanted
 
 
+def is_limited(row):
+    """Whether an entry has not all rights, or has a limit."""
+    return "u" not in row["classes"] and bool(row["rights"]) and (row["rights"] != list(reference_page.RIGHTS) or ["nl"] not in (limit["classes"] for limit in row["limits"]))
+
+
 def rows_by_key(read):
     """Each key of the rows, and the rows that have it, with the name of their file, in the order of files and lines."""
     keys = collections.defaultdict(list)
@@ -238,7 +251,7 @@ def wrong_keys(read):
     keys = rows_by_key(read)
     for name, comment, key, said, links in read["keys"]:
         rows = keys.pop(key, [])
-        wanted = [[f"#{row['id']}", file["name"], f"{file['name']}:{row['number']}"] for file, row in rows]
+        wanted = [[f"#{row['id']}", file["name"], f"{file['name']}:{row['number']}", is_limited(row)] for file, row in rows]
         files = len({file["id"] for file, _ in rows})
         counts = f"{key} in {files} file{'s' * (files != 1)}, on {len(rows)} line{'s' * (len(rows) != 1)}."
         if not rows or (name, comment, said, links) != (rows[0][1]["id"].replace("f", "k", 1), rows[0][1]["comment"], counts, wanted):
@@ -255,7 +268,8 @@ def picture_of(read):
     for name, comment, _, _, links in read["keys"][:40]:
         files = [link[0].split("l")[0].removeprefix("#f") for link in links]
         if len(set(files)) > 2:
-            yield [f"#{name}", comment, str(len(set(files))), f"0 0 {len(read['files'])} 1", "".join(f"M{file} 0h1v1h-1z" for file in files)]
+            marks = "".join(f"M{file} {'.5h1v.5' if limited else '0h1v1'}h-1z" for file, (*_, limited) in zip(files, links))
+            yield [f"#{name}", comment, str(len(set(files))), f"0 0 {len(read['files'])} 1", marks]
 
 
 def key_rows(read):
@@ -264,6 +278,16 @@ def key_rows(read):
     yield "each line with a key is once in the list of keys", list(wrong_keys(read)), []
     yield "the picture of the keys in many files", read["picture"], list(picture_of(read))
     yield "the number of keys", read["keys_say"], [f"{len(keys)} different keys, on {sum(map(len, keys.values()))} lines, those that cannot be read or revoke a key among them. Those in most files come first."]
+
+
+def choice_rows(read, opened):
+    """What is said of the choices of one code, and what each leaves on the screen. The last that is tried is that of all lines."""
+    found, rows = counted(read), [row for file in read["files"] for row in file["rows"]]
+    numbers = sorted(int(code[1:]) for code in found)
+    wanted = [[f"s{number}", "show", False, f"s{number}", f"F{number} {found[f'F{number}']}"] for number in numbers]
+    yield "the choices", read["choices"], [["s0", "show", True, "s0", "all lines"], *wanted] if found else []
+    left = [[f"s{number}", [row["id"] for row in rows if f"F{number}" in row["classes"]]] for number in reversed(numbers)]
+    yield "what each choice leaves", opened.ask(CHOOSE), [*left, ["s0", [row["id"] for row in rows]]] if found else []
 
 
 def header_rows(read, asked):
@@ -320,6 +344,7 @@ def dom_rows(opened, asked):
     yield "classes", list(wrong_classes(read)), []
     yield from header_rows(read, asked)
     yield from key_rows(read)
+    yield from choice_rows(read, opened)
 
 
 def contrast_rows(opened):
@@ -395,10 +420,15 @@ WRONG = (
     ("a line is left out of the list of keys", "                keys[made[\"key\"]].append", "                made[\"line\"] != 7 and keys[made[\"key\"]].append"),
     ("a line stands below the key of the line before", "keys[made[\"key\"]].append", "keys[records[max(records.index(made) - 1, 0)][\"key\"] or made[\"key\"]].append"),
     ("a key has the comment of its last line", "    put_name(page, comment)\n    files", "    put_name(page, rows[-1][0])\n    files"),
-    ("a key is in as many files as lines", "    files = len({file for _, _, file, _ in rows})", "    files = len(rows)"),
+    ("a key is in as many files as lines", "    files = len({file for _, _, file, *_ in rows})", "    files = len(rows)"),
+    ("a limited line is free in the list of keys", '        page.put(*["Limited"] * limited)', "        pass"),
+    ("a limited line is free in the picture", '"LowColumnEnd" if limited else "ColumnEnd"', '"ColumnEnd"'),
     ("keys in the order of their fingerprints", "key=lambda one: -len(", "key=lambda one: 0 * len("),
-    ("a key in two files is in the picture", "for _, _, file, _ in rows}) > 2]", "for _, _, file, _ in rows}) > 1]"),
+    ("a key in two files is in the picture", "for _, _, file, *_ in rows}) > 2]", "for _, _, file, *_ in rows}) > 1]"),
     ("a mark of the file before", "page.put(\"Column\").say(file)", "page.put(\"Column\").say(max(file - 1, 0))"),
+    ("a choice of another code", 'page.put("Choice").say(number)', 'page.put("Choice").say(number + 1)'),
+    ("a choice is left out", "sorted(int(code[1:]) for code in found)", "sorted(int(code[1:]) for code in found)[1:]"),
+    ("how often all codes were found in a choice", "{found[f'F{number}']}", "{sum(found.values())}"),
     ("what to do about another code", "say(REMEDIES[code])", 'say(REMEDIES["F3"])'),
     ("a code that was found is not found", "if code not in found]", 'if code not in found or code == "F9"]'),
     ("another code was looked for", 'if code in total["told"]]', 'if code in total["told"] or code == "F15"]'),

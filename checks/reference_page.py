@@ -213,17 +213,26 @@ PIECES = {
     "Keys": '<section id="keys">\n<h2>Where each key stands</h2>\n<p class="says">',
     "Key": '<article class="key" id="k',
     "KeyPrint": "<samp>SHA256:",
+    "Limited": " <i>(limited)</i>",
     "KeyEnd": "</p>\n</article>\n",
     # the keys in many files, as a picture
-    "Picture": '<table class="mx">\n<caption>Keys in more than two files: each column is a file, in the order of the list of files.</caption>\n<thead><tr><th scope="col">Key</th><th scope="col">Files</th><th scope="col">Where</th></tr></thead>\n<tbody>\n',
+    "Picture": '<table class="mx">\n<caption>Keys in more than two files: each column is a file, in the order of the list of files. A mark is low where the key is limited.</caption>\n<thead><tr><th scope="col">Key</th><th scope="col">Files</th><th scope="col">Where</th></tr></thead>\n<tbody>\n',
     "PictureRow": '<tr><th scope="row"><a href="#k',
     "Strip": '</td><td><svg class="strip" viewBox="0 0 ',
     "StripColumns": ' 1" preserveAspectRatio="none" aria-hidden="true"><path class="full" d="',
     "Column": "M",
     "ColumnEnd": " 0h1v1h-1z",
+    "LowColumnEnd": " .5h1v.5h-1z",
     "StripEnd": '"></path></svg></td></tr>\n',
     "PictureEnd": "</tbody>\n</table>\n",
-    "Lines": '<section id="lines">\n<h2>Every line, by file</h2>\n<div class="all">\n',
+    # the lines of all files, and the choices of one code
+    "Lines": '<section id="lines">\n<h2>Every line, by file</h2>\n',
+    "Choices": '<p class="says">A choice hides the other lines on the screen. On paper all lines stand.</p>\n<b class="show">Show</b> <input type="radio" name="show" id="s0" checked><label for="s0">all lines</label>\n',
+    "Choice": '<input type="radio" name="show" id="s',
+    "ChoiceLabel": '"><label for="s',
+    "ChoiceWords": '">',
+    "ChoiceEnd": "</label>\n",
+    "Sections": '<div class="all">\n',
     "LinesEnd": "</div>\n</section>\n",
     "PageEnd": "</main>\n<footer><p>Written by ssh_audit review --form html. No script, nothing from outside, no link out.</p></footer>\n</body>\n</html>\n",
 }
@@ -538,15 +547,24 @@ def put_mend(page, total, found, looked_for, places):
 # ---- where each key stands
 
 
+def is_limited(made):
+    """Whether an entry of authorized_keys has not all rights, or something limits it."""
+    if "rights" not in made or made["rights"] is None:
+        return False
+    page = Page()
+    put_auth_limits(page, made)
+    return made["rights"].split() != list(RIGHTS) or page.pieces != ["NoLimit"]
+
+
 def keys_of(files):
-    """Each different key, and of each line that has it the comment, the name of its file, the file's number, and its own. Those in most
-    files come first, and those in as many in the order of their fingerprints."""
+    """Each different key, and of each line that has it the comment, the name of its file, the file's number, its own, and whether its
+    rights are limited. Those in most files come first, and those in as many in the order of their fingerprints."""
     keys = collections.defaultdict(list)
     for number, (records, end) in enumerate(files):
         for made in records:
             if made["key"]:
-                keys[made["key"]].append((made["comment"], end["file"], number, made["line"]))
-    return sorted(sorted(keys.items()), key=lambda one: -len({file for _, _, file, _ in one[1]}))
+                keys[made["key"]].append((made["comment"], end["file"], number, made["line"], is_limited(made)))
+    return sorted(sorted(keys.items()), key=lambda one: -len({file for _, _, file, *_ in one[1]}))
 
 
 def put_name(page, comment):
@@ -558,29 +576,30 @@ def put_name(page, comment):
 
 def put_picture(page, keys, files):
     """A row for each of the first 40 keys that is in more than two files, and in it a mark for each file."""
-    wide = [rows for _, rows in keys[:40] if len({file for _, _, file, _ in rows}) > 2]
+    wide = [rows for _, rows in keys[:40] if len({file for _, _, file, *_ in rows}) > 2]
     page.put(*["Picture"] * bool(wide))
     for rows in wide:
-        comment, _, file, line = rows[0]
+        comment, _, file, line, _ = rows[0]
         page.put("PictureRow").say(file).put("LineId").say(line).put("FileName")
         put_name(page, comment)
-        page.put("FirstCount").say(len({file for _, _, file, _ in rows})).put("Strip").say(len(files)).put("StripColumns")
-        for _, _, file, _ in rows:
-            page.put("Column").say(file).put("ColumnEnd")
+        page.put("FirstCount").say(len({file for _, _, file, *_ in rows})).put("Strip").say(len(files)).put("StripColumns")
+        for _, _, file, _, limited in rows:
+            page.put("Column").say(file).put("LowColumnEnd" if limited else "ColumnEnd")
         page.put("StripEnd")
     page.put(*["PictureEnd"] * bool(wide))
 
 
 def put_key_of(page, key, rows):
-    comment, _, file, line = rows[0]
+    comment, _, file, line, _ = rows[0]
     page.put("Key").say(file).put("LineId").say(line).put("SectionName")
     put_name(page, comment)
-    files = len({file for _, _, file, _ in rows})
+    files = len({file for _, _, file, *_ in rows})
     page.put("SectionSays", "KeyPrint").say(key.removeprefix("SHA256:")).put("FingerprintEnd")
     page.say(f" in {few(files, 'file', 'files')}, on {few(len(rows), 'line', 'lines')}").put("Places")
-    for place, (_, name, file, line) in enumerate(rows):
+    for place, (_, name, file, line, limited) in enumerate(rows):
         page.say(" " if place else "")
         put_place(page, name, file, line)
+        page.put(*["Limited"] * limited)
     page.put("KeyEnd")
 
 
@@ -593,6 +612,13 @@ def put_keys(page, files):
     page.put("MendEnd")
 
 
+def put_choices(page, found):
+    """A choice for each code that was found, after that of all lines."""
+    page.put(*["Choices"] * bool(found))
+    for number in sorted(int(code[1:]) for code in found):
+        page.put("Choice").say(number).put("ChoiceLabel").say(number).put("ChoiceWords").say(f"F{number} {found[f'F{number}']}").put("ChoiceEnd")
+
+
 def put_front(page, objects, total, files):
     """All that comes before the lines of the first file."""
     found = collections.Counter(one["code"] for made in objects if made["what"] != "end" for one in made["findings"])
@@ -603,6 +629,9 @@ def put_front(page, objects, total, files):
     put_asked(page, total, looked_for)
     put_mend(page, total, found, looked_for, places_of(files))
     put_keys(page, files)
+    page.put("Lines")
+    put_choices(page, found)
+    page.put("Sections")
 
 
 # ---- the page
@@ -622,7 +651,6 @@ def page_of(objects, title=None):
     heading, page = escaped((TITLES[kind] if title is None else title).encode()), Page()
     page.put("Front").say(heading).put("StyleStart", "Style", "StyleEnd").say(heading).put("HeadingEnd")
     put_front(page, objects, total, files)
-    page.put("Lines")
     for number, (records, end) in enumerate(files):
         put_section(page, number, records, end, kind)
     page.put("LinesEnd", "Register")

@@ -1,5 +1,5 @@
 -- Each section of a file, the register and the whole page close what they open.
-use Rattle.std.proofs.Common.{◌≡◌, List, [], ◌∷◌, ℕ, refl}
+use Rattle.std.proofs.Common.{◌≡◌, ◌==◌, Bool, true, false, cond, List, [], ◌∷◌, ℕ, length, refl}
 use Rattle.std.specs.Prelude.{codes}
 use Rattle.ssh_print.specs.Texts.{hex_text}
 use Rattle.ssh_page.specs.declared.file.FileKind.{FileKind}
@@ -7,11 +7,12 @@ use Rattle.ssh_page.specs.declared.file.FileKind.TheVariants.{AuthorizedKeys, Kn
 use Rattle.ssh_page.specs.declared.header.PageTotals.{PageTotals}
 use Rattle.ssh_page.specs.declared.mend.CodeCount.{CodeCount}
 use Rattle.ssh_page.specs.declared.piece.Piece.TheVariants as piece
-use Rattle.ssh_page.specs.Documents.{Document, put, say, after, ◌&◌}
+use Rattle.ssh_page.specs.Choices.{choice, choices}
+use Rattle.ssh_page.specs.Documents.{Document, nothing, put, say, each, after, ◌&◌}
 use Rattle.ssh_page.specs.Files.{ClassesSeen, FileSeen, count_cells, counts_part, empty_section, fault_row, fault_section, fault_words, file_link, file_row, register, register_end, section, section_classes, section_head, section_name, table_piece}
 use Rattle.ssh_page.specs.KeyLists.{keys}
 use Rattle.ssh_page.specs.Mending.{mend}
-use Rattle.ssh_page.specs.Pages.{header, page_lines, page_end, page_start, whole_page}
+use Rattle.ssh_page.specs.Pages.{header, lines_start, page_lines, page_end, page_start, whole_page}
 use Rattle.ssh_page.specs.Questions.{QuestionSeen}
 use Rattle.ssh_page.specs.Tags.{within, valued}
 use Rattle.ssh_page.specs.Classes.{class_of}
@@ -131,6 +132,28 @@ start_leads title = record { by = refl }
 header_leads : (q : QuestionSeen) (t : PageTotals) → Leads (within heading) (header q t) (within sections)
 header_leads q t = next (next (verdict_stays heading q t) (tiles_stay heading t)) (asked_leads (codes "body" ∷ codes "html" ∷ []) q)
 
+choice_stays : (opened : Open) (f : CodeCount) → Leads (within opened) (choice f) (within opened)
+unfolding choice
+choice_stays opened f = record { by = refl }
+
+choices-by : (b : Bool) (opened : Open) (found : List CodeCount)
+    → after (within opened) (cond b nothing (put piece.Choices & each choice found)) ≡ within opened
+choices-by true opened found = refl
+choices-by false opened found =
+    let each_stays : Leads (within opened) (each choice found) (within opened) = all_stay (within opened) choice (choice_stays opened) found in
+    let whole : Leads (within opened) (put piece.Choices & each choice found) (within opened) = next (here (within opened) (put piece.Choices)) each_stays in
+    whole.by
+
+choices_stay : (opened : Open) (found : List CodeCount) → Leads (within opened) (choices found) (within opened)
+unfolding choices
+choices_stay opened found = record { by = choices-by (length found == 0) opened found }
+
+lines_lead : (opened : Open) (found : List CodeCount) → Leads (within opened) (lines_start found) (within (codes "div" ∷ codes "section" ∷ opened))
+unfolding lines_start
+lines_lead opened found =
+    let inner = codes "section" ∷ opened in
+    next (next (here (within opened) (put piece.Lines)) (choices_stay inner found)) (here (within inner) (put piece.Sections))
+
 page_end_leads : Leads (within sections) page_end (within [])
 unfolding page_end
 page_end_leads = record { by = refl }
@@ -144,4 +167,4 @@ page_closes title q t found names files rows total h k =
     let head : Leads (within []) (page_start title & header q t) (within sections) = next (start_leads title) (header_leads q t) in
     let seen = page_lines names files in
     let front : Leads (within []) (page_start title & header q t & mend q t found seen & keys seen) (within sections) = next (next head (mend_stays sections q t found seen)) (keys_stay sections seen) in
-    next (next (next (next (next front (here (within sections) (put piece.Lines))) middle) (here (within lines) (put piece.LinesEnd))) (register_stays sections rows total k)) page_end_leads
+    next (next (next (next (next front (lines_lead sections found)) middle) (here (within lines) (put piece.LinesEnd))) (register_stays sections rows total k)) page_end_leads

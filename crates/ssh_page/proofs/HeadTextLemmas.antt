@@ -14,6 +14,7 @@ use Rattle.ssh_findings.specs.declared.urgency.Urgency.TheVariants.{Today, Soon,
 use Rattle.ssh_page.specs.declared.header.PageTotals.{PageTotals}
 use Rattle.ssh_page.specs.declared.mend.CodeCount.{CodeCount}
 use Rattle.ssh_page.specs.declared.piece.Piece.TheVariants as piece
+use Rattle.ssh_page.specs.Choices.{choice, choices}
 use Rattle.ssh_page.specs.Documents.{nothing, put, say, count, each, texts_of, ◌&◌}
 use Rattle.ssh_page.specs.Headers.{asked, code_list, code_word, found_part, how_many, kind_words, looked_for_part, none_found, term, tile, tiles, verdict, verdict_piece}
 use Rattle.ssh_page.specs.declared.record.RowPlace.{RowPlace}
@@ -94,6 +95,22 @@ asked_none q =
 
 pub header_none : (q : QuestionSeen) (t : PageTotals) → HasTexts (header q t) []
 header_none q t = past (past (verdict_none q t) (tiles_none t)) (asked_none q)
+
+-- ---- the choices
+
+choice-none : (f : CodeCount) → texts_of (choice f) ≡ []
+unfolding choice
+choice-none f = refl
+
+choices-none : (b : Bool) (found : List CodeCount) → texts_of (cond b nothing (put piece.Choices & each choice found)) ≡ []
+choices-none true found = refl
+choices-none false found =
+    let inner : HasTexts (each choice found) [] = record { by = each_textless choice choice-none found } in
+    (past (piece_none piece.Choices) inner).by
+
+pub choices_none : (found : List CodeCount) → HasTexts (choices found) []
+unfolding choices
+choices_none found = record { by = choices-none (length found == 0) found }
 
 -- ---- what has to be mended
 

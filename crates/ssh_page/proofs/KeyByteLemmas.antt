@@ -9,9 +9,10 @@ use Rattle.ssh_page.specs.declared.record.RowPlace.{RowPlace}
 use Rattle.ssh_page.specs.Documents.{IsOfBytes, nothing, put, say, count, each, ◌&◌}
 use Rattle.ssh_page.specs.Headers.{how_many}
 use Rattle.ssh_page.specs.KeyGroups.{KeyGroupSeen, by_key, files_before, group_of, groups_in, key_before, put_first, runs}
-use Rattle.ssh_page.specs.KeyLists.{column, has_wide, is_wide, key_by, key_counts, key_head, key_list, key_part, keys, list_head, name_part, picture, picture_name, picture_row, row_link, strip}
-use Rattle.ssh_page.specs.KeyRows.{KeyRowSeen, behind, front_text, key_row, cell_comment, print_in, row_place, rows_at, rows_in, with_print}
+use Rattle.ssh_page.specs.KeyLists.{column, has_wide, is_wide, key_by, key_counts, key_head, key_list, key_part, keys, limited_note, list_head, name_part, picture, picture_name, picture_row, row_link, strip}
+use Rattle.ssh_page.specs.KeyRows.{KeyRowSeen, behind, front_text, is_limited, key_row, cell_comment, print_in, row_place, rows_at, rows_in, with_print}
 use Rattle.ssh_page.specs.Pieces.{mark}
+use Rattle.ssh_page.specs.Records.{put_if}
 use Rattle.ssh_page.specs.Places.{LinesSeen, name_at, next_link, place_link}
 use Rattle.ssh_page.specs.Shown.{are_printable, is_printable}
 use Rattle.ssh_page.proofs.GroupLemmas.{all-ordered}
@@ -57,7 +58,10 @@ row-shown m = go (length print == 43)
     print : List ℕ
     print = print_in (behind piece.KeyCell m)
 
-    go : (p : Bool) → AllByRecursion IsShown (option_to_list (with_print (row_place m) (cell_comment (behind piece.KeyCell m)) (cond p (Some (print_in (behind piece.KeyCell m))) None)))
+    limited : Bool
+    limited = is_limited (behind piece.RightsCell (behind piece.KeyCell m))
+
+    go : (p : Bool) → AllByRecursion IsShown (option_to_list (with_print (row_place m) (cell_comment (behind piece.KeyCell m)) limited (cond p (Some (print_in (behind piece.KeyCell m))) None)))
     go true = ((name-printable (behind piece.KeyCell m), print-printable (behind piece.KeyCell m)), tt)
     go false = tt
 
@@ -147,14 +151,21 @@ next-are : (names : List (List ℕ)) → AllByRecursion AreBytes names → (p : 
 unfolding next_link
 next-are names h p = (bytes-by (codes " ") refl, link-are names h p)
 
+note-are : (r : KeyRowSeen) → IsOfBytes (limited_note r)
+note-are r = go r.is_limited
+  where
+    go : (b : Bool) → IsOfBytes (put_if b piece.Limited)
+    go true = tt
+    go false = tt
+
 links-are : (names : List (List ℕ)) → AllByRecursion AreBytes names → (rows : List KeyRowSeen) → IsOfBytes (each (row_link names) rows)
 links-are names h [] = tt
-links-are names h (r ∷ rows) = (next-are names h r.place, links-are names h rows)
+links-are names h (r ∷ rows) = ((next-are names h r.place, note-are r), links-are names h rows)
 
 key-are : (names : List (List ℕ)) → AllByRecursion AreBytes names → (files : ℕ) (rows : List KeyRowSeen) → AllByRecursion IsShown rows → IsOfBytes (key_by names files rows)
 key-are names h files [] k = tt
 key-are names h files (r ∷ rows) k =
-    (((((head-are r k.0, counts-are files (length (r ∷ rows))), tt), link-are names h r.place), links-are names h rows), tt)
+    ((((((head-are r k.0, counts-are files (length (r ∷ rows))), tt), link-are names h r.place), note-are r), links-are names h rows), tt)
 
 each-are : (names : List (List ℕ)) → AllByRecursion AreBytes names → (groups : List KeyGroupSeen) → AllByRecursion (λ (g : KeyGroupSeen). AllByRecursion IsShown g.rows) groups
     → IsOfBytes (each (key_part names) groups)

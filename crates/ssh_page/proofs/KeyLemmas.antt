@@ -5,7 +5,7 @@ use Rattle.std.specs.List.{flat_map}
 use Rattle.ssh_page.specs.declared.piece.Piece.TheVariants as piece
 use Rattle.ssh_page.specs.Documents.{nothing, put, say, count, each, after, pieces_of, texts_of, ◌&◌}
 use Rattle.ssh_page.specs.KeyGroups.{KeyGroupSeen, by_key, groups_in}
-use Rattle.ssh_page.specs.KeyLists.{column, file_name, first_name, has_wide, is_wide, key_by, key_counts, key_head, key_list, key_part, key_texts, keys, keys_texts, list_head, list_texts, name_part, picture, picture_name, picture_row, picture_texts, row_link, row_texts, strip}
+use Rattle.ssh_page.specs.KeyLists.{column, file_name, first_name, has_wide, is_wide, key_by, key_counts, key_head, key_list, key_part, key_texts, keys, keys_texts, limited_note, list_head, list_texts, name_part, picture, picture_name, picture_row, picture_texts, row_link, row_texts, strip}
 use Rattle.ssh_page.specs.KeyRows.{KeyRowSeen, rows_in}
 use Rattle.ssh_page.specs.Places.{LinesSeen, renamed}
 use Rattle.ssh_page.specs.StandIns.{if_bytes}
@@ -13,9 +13,9 @@ use Rattle.ssh_page.specs.Tags.{valued, within}
 use Rattle.ssh_page.proofs.HeaderLemmas.{many_stay}
 use Rattle.ssh_page.proofs.HeadTextLemmas.{link_has, many_none, next_has}
 use Rattle.ssh_page.proofs.MendLemmas.{link_stays, next_stays}
-use Rattle.ssh_page.proofs.PlaceLemmas.{Leads, all_stay, here, next}
+use Rattle.ssh_page.proofs.PlaceLemmas.{Leads, all_stay, here, may_stay, next}
 use Rattle.ssh_page.proofs.ShapeLemmas.{SameShape, each_shape, join, like, link_shape, next_shape}
-use Rattle.ssh_page.proofs.TextLemmas.{HasTexts, has, past, piece_none, say_none, upto}
+use Rattle.ssh_page.proofs.TextLemmas.{HasTexts, has, if_none, past, piece_none, say_none, upto}
 
 abbrev Open : Type 0
 Open = List (List ℕ)
@@ -41,19 +41,26 @@ unfolding key_counts
 counts_stay opened files lines =
     next (next (next (here (within opened) (say (codes " in "))) (many_stay opened files (codes " file") (codes " files"))) (here (within opened) (say (codes ", on ")))) (many_stay opened lines (codes " line") (codes " lines"))
 
+note_stays : (opened : Open) (r : KeyRowSeen) → Leads (within opened) (limited_note r) (within opened)
+note_stays opened r = may_stay (within opened) piece.Limited r.is_limited (record { by = refl })
+
 rows_stay : (opened : Open) (names : List (List ℕ)) (rows : List KeyRowSeen) → Leads (within opened) (each (row_link names) rows) (within opened)
-rows_stay opened names rows = all_stay (within opened) (row_link names) (λ (r : KeyRowSeen). next_stays opened names r.place) rows
+rows_stay opened names rows = all_stay (within opened) (row_link names) (λ (r : KeyRowSeen). next (next_stays opened names r.place) (note_stays opened r)) rows
 
 key_stays : (opened : Open) (names : List (List ℕ)) (files : ℕ) (rows : List KeyRowSeen) → Leads (within opened) (key_by names files rows) (within opened)
 key_stays opened names files [] = record { by = refl }
 key_stays opened names files (r ∷ rows) =
     let p = codes "p" ∷ codes "article" ∷ opened in
     let told = next (next (head_leads opened r) (counts_stay p files (length (r ∷ rows)))) (here (within p) (put piece.Places)) in
-    next (next (next told (link_stays p names r.place)) (rows_stay p names rows)) (here (within p) (put piece.KeyEnd))
+    next (next (next (next told (link_stays p names r.place)) (note_stays p r)) (rows_stay p names rows)) (here (within p) (put piece.KeyEnd))
+
+column-by : (b : Bool) (opened : Open) (file : ℕ) → after (valued opened) (put piece.Column & count file & put (cond b piece.LowColumnEnd piece.ColumnEnd)) ≡ valued opened
+column-by true opened file = refl
+column-by false opened file = refl
 
 column_stays : (opened : Open) (r : KeyRowSeen) → Leads (valued opened) (column r) (valued opened)
 unfolding column
-column_stays opened r = record { by = refl }
+column_stays opened r = record { by = column-by r.is_limited opened r.place.file }
 
 -- the value of the strip is open behind it
 name_leads : (opened : Open) (r : KeyRowSeen) (files : ℕ) → Leads (within opened) (picture_name r files) (valued (codes "svg" ∷ codes "td" ∷ codes "tr" ∷ opened))
@@ -119,17 +126,20 @@ unfolding key_counts
 counts_none files lines =
     past (past (past (say_none (codes " in ")) (many_none files (codes " file") (codes " files"))) (say_none (codes ", on "))) (many_none lines (codes " line") (codes " lines"))
 
+note_none : (r : KeyRowSeen) → HasTexts (limited_note r) []
+note_none r = if_none r.is_limited piece.Limited
+
 rows-have : (names : List (List ℕ)) (rows : List KeyRowSeen) → texts_of (each (row_link names) rows) ≡ map (file_name names) rows
 rows-have names [] = refl
 rows-have names (r ∷ rows) =
-    ap (λ texts. texts ++ texts_of (each (row_link names) rows)) (next_has names r.place).by ∙ ap (λ texts. file_name names r ∷ texts) (rows-have names rows)
+    ap (λ texts. texts ++ texts_of (each (row_link names) rows)) (upto (next_has names r.place) (note_none r)).by ∙ ap (λ texts. file_name names r ∷ texts) (rows-have names rows)
 
 key_has : (names : List (List ℕ)) (files : ℕ) (rows : List KeyRowSeen) → HasTexts (key_by names files rows) (key_texts names rows)
 key_has names files [] = record { by = refl }
 key_has names files (r ∷ rows) =
     let links : HasTexts (each (row_link names) rows) (map (file_name names) rows) = record { by = rows-have names rows } in
     let told = upto (upto (head_has r) (counts_none files (length (r ∷ rows)))) (piece_none piece.Places) in
-    let all = upto (has (has told (link_has names r.place)) links) (piece_none piece.KeyEnd) in
+    let all = upto (has (upto (has told (link_has names r.place)) (note_none r)) links) (piece_none piece.KeyEnd) in
     record { by = all.by ∙ append_assoc (if_bytes r.name) (file_name names r ∷ []) (map (file_name names) rows) }
 
 each-have : (names : List (List ℕ)) (groups : List KeyGroupSeen) → texts_of (each (key_part names) groups) ≡ flat_map (λ (g : KeyGroupSeen). key_texts names g.rows) groups
@@ -192,7 +202,8 @@ key_shape : (names other : List (List ℕ)) (files : ℕ) (rows : List KeyRowSee
 key_shape names other files [] = record { by = refl }
 key_shape names other files (r ∷ rows) =
     let told = like (key_head r & key_counts files (length (r ∷ rows)) & put piece.Places) in
-    join (join (join told (link_shape names other r.place)) (each_shape (row_link names) (row_link other) (λ (s : KeyRowSeen). next_shape names other s.place) rows)) (like (put piece.KeyEnd))
+    let first = join (join told (link_shape names other r.place)) (like (limited_note r)) in
+    join (join first (each_shape (row_link names) (row_link other) (λ (s : KeyRowSeen). join (next_shape names other s.place) (like (limited_note s))) rows)) (like (put piece.KeyEnd))
 
 row-shape : (b : Bool) (all other files : ℕ) (rows : List KeyRowSeen) → pieces_of (cond b (strip all files rows) nothing) ≡ pieces_of (cond b (strip other files rows) nothing)
 row-shape true all other files [] = refl

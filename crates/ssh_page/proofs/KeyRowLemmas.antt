@@ -1,9 +1,8 @@
 -- The rows with a key that are read off a part of the page are those of its lines with a key.
-use Rattle.std.proofs.Common.{◌≡◌, ◌∙◌, ◌+◌, ◌<◌, ◌==◌, ◌||◌, ◌^◌, ℕ, nat_le, nat_lt, Bool, true, false, cond, List, [], ◌∷◌, ◌++◌, length, refl, ap, ap₂, sym, true≢false, append_assoc, arith, eq-eqb, ltb-true, ne_eqb, option_to_list}
+use Rattle.std.proofs.Common.{◌≡◌, ◌∙◌, ◌<◌, ◌==◌, ◌||◌, ◌^◌, ℕ, Bool, true, false, not, cond, List, [], ◌∷◌, ◌++◌, length, refl, ap, ap₂, sym, true≢false, append_assoc, eq-eqb, option_to_list}
 use Rattle.std.specs.Prelude.{Option, Some, None, codes}
 use Rattle.std.specs.Fmt.{decimal}
 use Rattle.std.proofs.lemmas.Bool.{and_parts}
-use denote.Enum.Declared.{tag_of}
 use Rattle.ssh_findings.specs.declared.facts.Facts.{Facts}
 use Rattle.ssh_findings.specs.declared.finding.Finding.{Finding}
 use Rattle.ssh_findings.specs.declared.host_facts.HostFacts.{HostFacts}
@@ -19,7 +18,6 @@ use Rattle.ssh_findings.specs.declared.code.Code.{Code}
 use Rattle.ssh_keys.specs.Names.{key_name_of}
 use Rattle.ssh_keys.specs.declared.kind.KeyKind.{KeyKind}
 use Rattle.ssh_print.specs.Texts.{escaped_text}
-use Rattle.ssh_page.specs.contracts.piece.Piece as piece_type
 use Rattle.ssh_page.specs.declared.file.FileKind.{FileKind}
 use Rattle.ssh_page.specs.declared.piece.Piece.{Piece}
 use Rattle.ssh_page.specs.declared.piece.Piece.TheVariants as piece
@@ -29,69 +27,16 @@ use Rattle.ssh_page.specs.Documents.{Document, IsOfBytes, nothing, put, say, tel
 use Rattle.ssh_page.specs.Files.{ClassesSeen, FileSeen, empty_section, fault_section, section, section_end, section_head}
 use Rattle.ssh_page.specs.FoundRows.{AreNumbers}
 use Rattle.ssh_page.specs.HostRecords.{bare_row, host_cells, host_entry_row, revoked_cells, revoked_row, role}
-use Rattle.ssh_page.specs.KeyRows.{HasKeyRows, IsHeldPrint, IsPrint, KeyRowSeen, behind, fingerprint, front_text, held_rows, key_row, cell_comment, number_of, print_in, row_of, row_place, rows_in, with_print}
+use Rattle.ssh_page.specs.KeyRows.{HasKeyRows, IsHeldPrint, IsPrint, KeyRowSeen, behind, fingerprint, front_text, held_rows, is_limited, is_unlimited, key_row, cell_comment, number_of, print_in, row_by_cell, row_of, row_place, rows_in, with_print}
 use Rattle.ssh_page.specs.Pieces.{mark}
 use Rattle.ssh_page.specs.Records.{all_limits, bits_part, comment_part, entry_cells, entry_row, fingerprint_part, flag_part, held_part, key_part, put_if, rights_part, row_classes, row_findings, row_numbers, setting_part, unreadable_row}
 use Rattle.ssh_page.specs.Shown.{are_printable, is_printable}
 use Rattle.ssh_page.proofs.FoundRowLemmas.{NoRow, Rowless, all_limits_none, also, class_none, each_none, empty_none, entry_cells_none, fault_none, findings_none, flag_none, head_of_section_none, held_none, host_cells_none, if_none, limits_cell_none, number-read, revoked_cells_none, rights_cell_none, row_end_none, said, setting_none, table_end_none, unknown_none}
+use Rattle.ssh_page.proofs.LimitLemmas.{Limits, rights_limits, unknown_limits, words_limits}
 use Rattle.ssh_page.proofs.PrintableLemmas.{decimal-printable, escaped-printable}
+use Rattle.ssh_page.proofs.SearchLemmas.{Search, Lacks, behind_piece, no-mark, past, past-text}
 
 -- ---- what a search passes over
-
-no-mark : (p : Piece) (b : ℕ) → is_printable b ≡ true → (b == mark p) ≡ false
-unfolding mark
-no-mark p b h =
-    let few = ltb-true b 127 (and_parts (nat_le 32 b) (nat_lt b 127) h).1 in
-    ne_eqb b (128 + tag_of piece_type.the_type p) (λ e. omega (arith, few, e))
-
--- A search of a marked text, and the bytes at which it may stop; it passes over the others, and over all text.
-record Search (A : Type 0) : Type 0 where
-  of : List ℕ → A
-  stops : ℕ → Bool
-  passes : (b : ℕ) (rest : List ℕ) → stops b ≡ false → of (b ∷ rest) ≡ of rest
-  reads_on : (b : ℕ) → is_printable b ≡ true → stops b ≡ false
-
--- none of these bytes is a piece of the part
-abbrev Lacks : (ℕ → Bool) → Document → Type 0
-Lacks stops nothing = Unit {0}
-Lacks stops (put p) = stops (mark p) ≡ false
-Lacks stops (say text) = Unit {0}
-Lacks stops (tell text) = (stops (mark piece.Code) ≡ false) × (stops (mark piece.CodeEnd) ≡ false)
-Lacks stops (copied text) = (stops (mark piece.Code) ≡ false) × (stops (mark piece.CodeEnd) ≡ false)
-Lacks stops (count n) = Unit {0}
-Lacks stops (a & b) = Lacks stops a × Lacks stops b
-
-past-text : {A : Type 0} (s : Search A) (text rest : List ℕ) → are_printable text ≡ true → s.of (text ++ rest) ≡ s.of rest
-past-text s [] rest h = refl
-past-text s (b ∷ text) rest h =
-    let both = and_parts (is_printable b) (are_printable text) h in
-    s.passes b (text ++ rest) (s.reads_on b both.0) ∙ past-text s text rest both.1
-
-past-copied : {A : Type 0} (s : Search A) (text rest : List ℕ) → are_printable text ≡ true → s.stops (mark piece.Code) ≡ false → s.stops (mark piece.CodeEnd) ≡ false
-    → s.of (marks (copied text) ++ rest) ≡ s.of rest
-past-copied s text rest h one two =
-    s.passes (mark piece.Code) ((text ++ mark piece.CodeEnd ∷ []) ++ rest) one
-    ∙ ap s.of (append_assoc text (mark piece.CodeEnd ∷ []) rest) ∙ past-text s text (mark piece.CodeEnd ∷ rest) h
-    ∙ s.passes (mark piece.CodeEnd) rest two
-
-past : {A : Type 0} (s : Search A) (d : Document) → IsOfBytes d → Lacks s.stops d → (rest : List ℕ) → s.of (marks d ++ rest) ≡ s.of rest
-past s nothing are h rest = refl
-past s (put p) are h rest = s.passes (mark p) rest h
-past s (say text) are h rest = past-text s (escaped_text text) rest (escaped-printable text are)
-past s (tell text) are h rest = past-copied s (escaped_text text) rest (escaped-printable text are) h.0 h.1
-past s (copied text) are h rest = past-copied s text rest are h.0 h.1
-past s (count n) are h rest = past-text s (decimal n) rest (decimal-printable n)
-past s (a & b) are h rest =
-    ap s.of (append_assoc (marks a) (marks b) rest) ∙ past s a are.0 h.0 (marks b ++ rest) ∙ past s b are.1 h.1 rest
-
--- the search for the first piece of a kind
-abbrev behind_piece : Piece → Search (List ℕ)
-behind_piece p = record {
-  of = behind p;
-  stops = λ b. b == mark p;
-  passes = λ b rest h. ap (λ is. cond is rest (behind p rest)) h;
-  reads_on = no-mark p;
-}
 
 abbrev ends_print : ℕ → Bool
 ends_print b = b == mark piece.RightsCell || b == mark piece.Fingerprint
@@ -236,6 +181,18 @@ unreadable-lacks = record { file = refl; line = refl; cell = refl }
 record Cell (d : Document) (name print : List ℕ) : Type 0 where
   name_is : (rest : List ℕ) → cell_comment (marks d ++ mark piece.RightsCell ∷ rest) ≡ name
   print_is : (rest : List ℕ) → print_in (marks d ++ mark piece.RightsCell ∷ rest) ≡ print
+  rights_are : (rest : List ℕ) → behind piece.RightsCell (marks d ++ mark piece.RightsCell ∷ rest) ≡ rest
+
+-- the cell of the rights is behind it
+abbrev LacksRights : Document → Type 0
+LacksRights d = Lacks (λ b. b == mark piece.RightsCell) d
+
+rights-here : (rest : List ℕ) → behind piece.RightsCell (mark piece.RightsCell ∷ rest) ≡ rest
+unfolding mark
+rights-here rest = refl
+
+rights-behind : (d : Document) → IsOfBytes d → LacksRights d → (rest : List ℕ) → behind piece.RightsCell (marks d ++ mark piece.RightsCell ∷ rest) ≡ rest
+rights-behind d are lacks rest = past (behind_piece piece.RightsCell) d are lacks (mark piece.RightsCell ∷ rest) ∙ rights-here rest
 
 no-print : (rest : List ℕ) → print_in (mark piece.RightsCell ∷ rest) ≡ []
 unfolding mark
@@ -289,6 +246,27 @@ comment-name (c ∷ cs) rest are =
     let text = escaped_text (c ∷ cs) in
     ap front_text (append_assoc text (mark piece.CodeEnd ∷ []) rest) ∙ in-front text (mark piece.CodeEnd) rest (escaped-printable (c ∷ cs) are) refl
 
+comment-lacks-rights : (text : List ℕ) → LacksRights (comment_part text)
+unfolding mark
+comment-lacks-rights [] = refl
+comment-lacks-rights (c ∷ cs) = (refl, refl)
+
+bits-lack-rights : (bits : Option ℕ) → LacksRights (bits_part bits)
+bits-lack-rights None = tt
+bits-lack-rights (Some n) = (tt, tt)
+
+print-lacks-rights : (print : List ℕ) → LacksRights (fingerprint_part print)
+unfolding fingerprint_part mark
+print-lacks-rights print = ((refl, tt), refl)
+
+key-lacks-rights : (kind : KeyKind) (bits : Option ℕ) (print : List ℕ) → LacksRights (key_part kind bits print)
+unfolding key_part mark
+key-lacks-rights kind bits print = ((((refl, tt), bits-lack-rights bits), refl), print-lacks-rights print)
+
+held-lacks-rights : (held : Option HeldKey) → LacksRights (held_part held)
+held-lacks-rights None = tt
+held-lacks-rights (Some held) = key-lacks-rights held.kind held.bits held.fingerprint
+
 comment_cell : (text : List ℕ) (kind : KeyKind) (bits : Option ℕ) (print : List ℕ) → IsOfBytes (comment_part text & key_part kind bits print)
     → Cell (comment_part text & key_part kind bits print) (escaped_text text) (escaped_text print)
 comment_cell text kind bits print are =
@@ -298,6 +276,7 @@ comment_cell text kind bits print are =
       name_is = λ rest.
           ap cell_comment (append_assoc (marks (comment_part text)) (marks key) (mark piece.RightsCell ∷ rest)) ∙ comment-name text (marks key ++ mark piece.RightsCell ∷ rest) are.0;
       print_is = λ rest. whole.by (mark piece.RightsCell ∷ rest);
+      rights_are = rights-behind (comment_part text & key) are (comment-lacks-rights text, key-lacks-rights kind bits print);
     }
 
 -- words of the program are no comment
@@ -334,6 +313,7 @@ word_cell word print are =
     record {
       name_is = λ rest. own.by (mark piece.RightsCell ∷ rest) (no-name rest);
       print_is = λ rest. whole.by (mark piece.RightsCell ∷ rest);
+      rights_are = rights-behind (say word & fingerprint_part print) are (tt, print-lacks-rights print);
     }
 
 -- the fingerprint of a recovered key; nothing if there is none
@@ -356,6 +336,7 @@ held_cell word held are =
     record {
       name_is = λ rest. own.by (mark piece.RightsCell ∷ rest) (no-name rest);
       print_is = held_print_is word held are;
+      rights_are = rights-behind (say word & held_part held) are (tt, held-lacks-rights held);
     }
 
 -- ---- a row
@@ -364,39 +345,41 @@ held_cell word held are =
 record Begins (d e : Document) : Type 0 where
   by : (rest : List ℕ) → (more : List ℕ) × (marks d ++ rest ≡ marks e ++ more)
 
-begins : (d : Document) → Begins d d
-begins d = record { by = λ rest. (rest, refl) }
-
 more : {d e : Document} → Begins d e → (b : Document) → Begins (d & b) e
 more {d} {e} h b = record {
   by = λ rest. let found = h.by (marks b ++ rest) in (found.0, append_assoc (marks d) (marks b) rest ∙ found.1);
 }
 
-inside : (a : Document) {d e : Document} → Begins d e → Begins (a & d) (a & e)
-inside a {d} {e} h = record {
-  by = λ rest.
-      let found = h.by rest in
-      (found.0, append_assoc (marks a) (marks d) rest ∙ ap (λ l. marks a ++ l) found.1 ∙ sym (append_assoc (marks a) (marks e) found.0));
-}
+entry-regrouped : (a k q l m y : List ℕ) → (((a ++ (k ++ q)) ++ l) ++ m) ++ y ≡ ((a ++ k) ++ ((q ++ l) ++ m)) ++ y
+entry-regrouped a k q l m y = simp append_assoc
 
-four : (a b c d y : List ℕ) → (((a ++ b) ++ c) ++ d) ++ y ≡ (a ++ ((b ++ c) ++ d)) ++ y
-four a b c d y = simp append_assoc
+host-regrouped : (a k q l y : List ℕ) → ((a ++ (k ++ q)) ++ l) ++ y ≡ ((a ++ k) ++ (q ++ l)) ++ y
+host-regrouped a k q l y = simp append_assoc
 
-spread : (a b c d : Document) → Begins (a & b & c & d) (a & (b & c & d))
-spread a b c d = record { by = λ rest. (rest, four (marks a) (marks b) (marks c) (marks d) rest) }
+revoked-regrouped : (a k q l y : List ℕ) → (a ++ ((k ++ q) ++ l)) ++ y ≡ ((a ++ k) ++ (q ++ l)) ++ y
+revoked-regrouped a k q l y = simp append_assoc
 
--- what is read of a row by its front and by the cell of its key
-read_row : {d front cell : Document} {place : RowPlace} {name print : List ℕ} → Begins d (front & (cell & put piece.RightsCell)) → Front front place → Cell cell name print
-    → (rest : List ℕ) → key_row (marks d ++ rest) ≡ with_print place name (fingerprint print)
-read_row {d} {front} {cell} {place} {name} {print} b f c rest =
+unreadable-regrouped : (a b c d e y : List ℕ) → ((((a ++ b) ++ c) ++ d) ++ e) ++ y ≡ ((a ++ ((b ++ c) ++ d)) ++ e) ++ y
+unreadable-regrouped a b c d e y = simp append_assoc
+
+bare-regrouped : (a b c d e l y : List ℕ) → (((((a ++ b) ++ c) ++ d) ++ e) ++ l) ++ y ≡ ((a ++ ((b ++ c) ++ d)) ++ (e ++ l)) ++ y
+bare-regrouped a b c d e l y = simp append_assoc
+
+cells-regrouped : (f c t m : List ℕ) (r : ℕ) → ((f ++ (c ++ r ∷ [])) ++ t) ++ m ≡ f ++ (c ++ r ∷ (t ++ m))
+cells-regrouped f c t m r = simp append_assoc
+
+-- what is read of a row by its front, by the cell of its key and by those behind it
+read_row : {d front cell tail : Document} {place : RowPlace} {name print : List ℕ} {limited : Bool} → Begins d (front & (cell & put piece.RightsCell) & tail) → Front front place
+    → Cell cell name print → Limits tail limited → (rest : List ℕ) → key_row (marks d ++ rest) ≡ with_print place name limited (fingerprint print)
+read_row {d} {front} {cell} {tail} {place} {name} {print} {limited} b f c l rest =
     let found = b.by rest in
-    let cells = marks cell ++ mark piece.RightsCell ∷ found.0 in
-    let is : marks d ++ rest ≡ marks front ++ cells =
-    found.1 ∙ append_assoc (marks front) (marks cell ++ mark piece.RightsCell ∷ []) found.0
-    ∙ ap (λ l. marks front ++ l) (append_assoc (marks cell) (mark piece.RightsCell ∷ []) found.0) in
-    ap key_row is
-    ∙ ap₂ (λ (p : RowPlace) (l : List ℕ). with_print p (cell_comment l) (fingerprint (print_in l))) (f.place_is cells) (f.cell_is cells)
-    ∙ ap₂ (λ (n t : List ℕ). with_print place n (fingerprint t)) (c.name_is found.0) (c.print_is found.0)
+    let rights = marks tail ++ found.0 in
+    let cells = marks cell ++ mark piece.RightsCell ∷ rights in
+    let is : marks d ++ rest ≡ marks front ++ cells = found.1 ∙ cells-regrouped (marks front) (marks cell) (marks tail) found.0 (mark piece.RightsCell) in
+    ap key_row is ∙ ap₂ (λ (p : RowPlace) (m : List ℕ). row_by_cell p m) (f.place_is cells) (f.cell_is cells)
+    ∙ ap₂ (λ (n t : List ℕ). with_print place n (is_limited (behind piece.RightsCell cells)) (fingerprint t)) (c.name_is rights) (c.print_is rights)
+    ∙ ap (λ m. with_print place name (is_limited m) (fingerprint print)) (c.rights_are rights)
+    ∙ ap (λ is. with_print place name is (fingerprint print)) (l.by found.0)
 
 is-print : (print : List ℕ) → length print ≡ 43 → fingerprint print ≡ Some print
 is-print print long = ap (λ b. cond b (Some print) None) (eq-eqb (length print) 43 long)
@@ -405,18 +388,18 @@ is-print print long = ap (λ b. cond b (Some print) None) (eq-eqb (length print)
 record Row (d : Document) (rows : List KeyRowSeen) : Type 0 where
   found : (rest : List ℕ) → option_to_list (key_row (marks d ++ rest)) ≡ rows
 
-with_key : {d front cell : Document} {place : RowPlace} {name print : List ℕ} → Begins d (front & (cell & put piece.RightsCell)) → Front front place → Cell cell name print
-    → length print ≡ 43 → Row d (record { place = place; name = name; key = print } ∷ [])
-with_key {d} {front} {cell} {place} {name} {print} b f c long = record {
-  found = λ rest. ap option_to_list (read_row b f c rest) ∙ ap (λ o. option_to_list (with_print place name o)) (is-print print long);
+with_key : {d front cell tail : Document} {place : RowPlace} {name print : List ℕ} {limited : Bool} → Begins d (front & (cell & put piece.RightsCell) & tail) → Front front place
+    → Cell cell name print → Limits tail limited → length print ≡ 43 → Row d (record { place = place; name = name; key = print; is_limited = limited } ∷ [])
+with_key {d} {front} {cell} {tail} {place} {name} {print} {limited} b f c l long = record {
+  found = λ rest. ap option_to_list (read_row b f c l rest) ∙ ap (λ o. option_to_list (with_print place name limited o)) (is-print print long);
 }
 
-with_held : {d front : Document} {word : List ℕ} {place : RowPlace} (held : Option HeldKey) → Begins d (front & (say word & held_part held & put piece.RightsCell)) → Front front place
-    → IsOfBytes (say word & held_part held) → IsHeldPrint held → Row d (held_rows place held)
-with_held {d} {front} {word} {place} None b f are is = record {
-  found = λ rest. ap option_to_list (read_row b f (held_cell word None are) rest);
+with_held : {d front tail : Document} {word : List ℕ} {place : RowPlace} (held : Option HeldKey) → Begins d (front & (say word & held_part held & put piece.RightsCell) & tail)
+    → Front front place → Limits tail false → IsOfBytes (say word & held_part held) → IsHeldPrint held → Row d (held_rows place held)
+with_held {d} {front} {tail} {word} {place} None b f l are is = record {
+  found = λ rest. ap option_to_list (read_row b f (held_cell word None are) l rest);
 }
-with_held {d} {front} {word} {place} (Some held) b f are is = with_key b f (held_cell word (Some held) are) is
+with_held {d} {front} {tail} {word} {place} (Some held) b f l are is = with_key b f (held_cell word (Some held) are) l is
 
 -- the rows of a whole row: what is found behind its first piece, and no other
 row_rows : (d : Document) (rows : List KeyRowSeen) → Row d rows → IsOfBytes d → NoRow d → (rest : List ℕ) → rows_in (mark piece.Row ∷ (marks d ++ rest)) ≡ rows ++ rows_in rest
@@ -458,45 +441,71 @@ if-are false p = tt
 
 -- ---- the cells of a row
 
-entry-cells-begin : (f : Facts) → Begins (entry_cells f) (comment_part f.comment & key_part f.kind f.bits f.fingerprint & put piece.RightsCell)
+entry-begins : (before : Document) (f : Facts) → Begins (before & entry_cells f & put piece.LimitsCell & all_limits f)
+    (before & (comment_part f.comment & key_part f.kind f.bits f.fingerprint & put piece.RightsCell) & (rights_part f.rights & put piece.LimitsCell & all_limits f))
 unfolding entry_cells
-entry-cells-begin f = more (begins (comment_part f.comment & key_part f.kind f.bits f.fingerprint & put piece.RightsCell)) (rights_part f.rights)
+entry-begins before f = record {
+  by = λ rest.
+      (rest, entry-regrouped (marks before) (marks (comment_part f.comment & key_part f.kind f.bits f.fingerprint & put piece.RightsCell)) (marks (rights_part f.rights)) (marks (put piece.LimitsCell)) (marks (all_limits f)) rest);
+}
 
 entry-cells-are : (f : Facts) → IsOfBytes (entry_cells f) → IsOfBytes (comment_part f.comment & key_part f.kind f.bits f.fingerprint)
 unfolding entry_cells
 entry-cells-are f are = are.0.0
 
-host-cells-begin : (f : HostFacts) → Begins (host_cells f) (comment_part f.comment & key_part f.kind f.bits f.fingerprint & put piece.RightsCell)
+host-begins : (before : Document) (f : HostFacts) → Begins (before & host_cells f & put piece.LimitsCell)
+    (before & (comment_part f.comment & key_part f.kind f.bits f.fingerprint & put piece.RightsCell) & (say (role f.is_authority) & put piece.LimitsCell))
 unfolding host_cells
-host-cells-begin f = more (begins (comment_part f.comment & key_part f.kind f.bits f.fingerprint & put piece.RightsCell)) (say (role f.is_authority))
+host-begins before f = record {
+  by = λ rest.
+      (rest, host-regrouped (marks before) (marks (comment_part f.comment & key_part f.kind f.bits f.fingerprint & put piece.RightsCell)) (marks (say (role f.is_authority))) (marks (put piece.LimitsCell)) rest);
+}
 
 host-cells-are : (f : HostFacts) → IsOfBytes (host_cells f) → IsOfBytes (comment_part f.comment & key_part f.kind f.bits f.fingerprint)
 unfolding host_cells
 host-cells-are f are = are.0.0
 
-revoked-cells-begin : (print : List ℕ) → Begins (revoked_cells print) (say (codes "revoked") & fingerprint_part print & put piece.RightsCell)
+host-role-are : (f : HostFacts) → IsOfBytes (host_cells f) → IsOfBytes (say (role f.is_authority))
+unfolding host_cells
+host-role-are f are = are.1
+
+revoked-begins : (before : Document) (print : List ℕ) → Begins (before & revoked_cells print)
+    (before & (say (codes "revoked") & fingerprint_part print & put piece.RightsCell) & (say (codes "revoked") & put piece.LimitsCell))
 unfolding revoked_cells
-revoked-cells-begin print = more (more (begins (say (codes "revoked") & fingerprint_part print & put piece.RightsCell)) (say (codes "revoked"))) (put piece.LimitsCell)
+revoked-begins before print = record {
+  by = λ rest.
+      (rest, revoked-regrouped (marks before) (marks (say (codes "revoked") & fingerprint_part print & put piece.RightsCell)) (marks (say (codes "revoked"))) (marks (put piece.LimitsCell)) rest);
+}
 
 revoked-cells-are : (print : List ℕ) → IsOfBytes (revoked_cells print) → IsOfBytes (say (codes "revoked") & fingerprint_part print)
 unfolding revoked_cells
 revoked-cells-are print are = are.0.0.0
 
+revoked-word-are : (print : List ℕ) → IsOfBytes (revoked_cells print) → IsOfBytes (say (codes "revoked"))
+unfolding revoked_cells
+revoked-word-are print are = are.0.1
+
+unreadable-begins : (a b c d e : Document) → Begins (a & b & c & d & e) (a & (b & c & d) & e)
+unreadable-begins a b c d e = record { by = λ rest. (rest, unreadable-regrouped (marks a) (marks b) (marks c) (marks d) (marks e) rest) }
+
+bare-begins : (a b c d e l : Document) → Begins (a & b & c & d & e & l) (a & (b & c & d) & (e & l))
+bare-begins a b c d e l = record { by = λ rest. (rest, bare-regrouped (marks a) (marks b) (marks c) (marks d) (marks e) (marks l) rest) }
+
 -- ---- rows
 
 pub entry_keyed : (place : RowPlace) (f : Facts) (found : List Finding) → AreNumbers place → IsPrint f.fingerprint → IsOfBytes (entry_row place f found)
-    → HasKeyRows (entry_row place f found) (row_of place f.comment f.fingerprint ∷ [])
+    → HasKeyRows (entry_row place f found) (row_of place f.comment f.fingerprint (not (is_unlimited f)) ∷ [])
 unfolding entry_row
 entry_keyed place f found few long (((((a, cells), x), limits), findings), y) rest =
     let classes = row_classes auth_row found & put_if f.is_authority piece.AuthorityClass in
     let before = classes & row_numbers place in
     let before-are : IsOfBytes before = ((classes-are auth_row found, if-are f.is_authority piece.AuthorityClass), numbers-are place) in
     let behind-row = before & entry_cells f & put piece.LimitsCell & all_limits f & row_findings place auth_row found & put piece.RowEnd in
-    let starts = more (more (more (more (inside before (entry-cells-begin f)) (put piece.LimitsCell)) (all_limits f)) (row_findings place auth_row found)) (put piece.RowEnd) in
+    let starts = more (more (entry-begins before f) (row_findings place auth_row found)) (put piece.RowEnd) in
     let lacks = also_lacks (classes-lack auth_row found) (authority-lacks f.is_authority) in
-    let own = with_key starts (front_after classes place before-are.0 lacks few) (comment_cell f.comment f.kind f.bits f.fingerprint (entry-cells-are f cells)) long in
+    let own = with_key starts (front_after classes place before-are.0 lacks few) (comment_cell f.comment f.kind f.bits f.fingerprint (entry-cells-are f cells)) (rights_limits f) long in
     let none = also (also (also (also (also (also (also (class_none_all auth_row found) (authority_none f.is_authority)) (numbers_none place)) (entry_cells_none f)) limits_cell_none) (all_limits_none f)) (findings_none place auth_row found)) row_end_none in
-    row_rows behind-row (row_of place f.comment f.fingerprint ∷ []) own (((((before-are, cells), x), limits), findings), y) none rest
+    row_rows behind-row (row_of place f.comment f.fingerprint (not (is_unlimited f)) ∷ []) own (((((before-are, cells), x), limits), findings), y) none rest
 
 pub unreadable_keyed : (place : RowPlace) (held : Option HeldKey) (found : List Finding) → AreNumbers place → IsHeldPrint held → IsOfBytes (unreadable_row place held found)
     → HasKeyRows (unreadable_row place held found) (held_rows place held)
@@ -507,14 +516,14 @@ unreadable_keyed place held found few long (((((((a, words), key), x), y), z), f
     let before-are : IsOfBytes before = ((classes-are auth_row found, tt), numbers-are place) in
     let word = codes "unreadable" in
     let behind-row = before & say word & held_part held & put piece.RightsCell & put piece.RightsUnknown & put piece.LimitsCell & row_findings place auth_row found & put piece.RowEnd in
-    let starts = more (more (more (more (spread before (say word) (held_part held) (put piece.RightsCell)) (put piece.RightsUnknown)) (put piece.LimitsCell)) (row_findings place auth_row found)) (put piece.RowEnd) in
+    let starts = more (more (more (unreadable-begins before (say word) (held_part held) (put piece.RightsCell) (put piece.RightsUnknown)) (put piece.LimitsCell)) (row_findings place auth_row found)) (put piece.RowEnd) in
     let lacks = also_lacks (classes-lack auth_row found) unreadable-lacks in
-    let own = with_held held starts (front_after classes place before-are.0 lacks few) (words, key) long in
+    let own = with_held held starts (front_after classes place before-are.0 lacks few) unknown_limits (words, key) long in
     let none = also (also (also (also (also (also (also (also (also (class_none_all auth_row found) unreadable_none) (numbers_none place)) (said word)) (held_none held)) rights_cell_none) unknown_none) limits_cell_none) (findings_none place auth_row found)) row_end_none in
     row_rows behind-row (held_rows place held) own (((((((before-are, words), key), x), y), z), findings), end) none rest
 
 pub host_entry_keyed : (place : RowPlace) (f : HostFacts) (found : List HostFinding) → AreNumbers place → IsPrint f.fingerprint → IsOfBytes (host_entry_row place f found)
-    → HasKeyRows (host_entry_row place f found) (row_of place f.comment f.fingerprint ∷ [])
+    → HasKeyRows (host_entry_row place f found) (row_of place f.comment f.fingerprint false ∷ [])
 unfolding host_entry_row
 host_entry_keyed place f found few long (((((a, cells), x), names), findings), y) rest =
     let classes = row_classes host_row found & put_if f.is_authority piece.AuthorityClass in
@@ -522,14 +531,14 @@ host_entry_keyed place f found few long (((((a, cells), x), names), findings), y
     let before-are : IsOfBytes before = ((classes-are host_row found, if-are f.is_authority piece.AuthorityClass), numbers-are place) in
     let own-names = setting_part (codes "names ") (Some f.names) in
     let behind-row = before & host_cells f & put piece.LimitsCell & own-names & row_findings place host_row found & put piece.RowEnd in
-    let starts = more (more (more (more (inside before (host-cells-begin f)) (put piece.LimitsCell)) own-names) (row_findings place host_row found)) (put piece.RowEnd) in
+    let starts = more (more (more (host-begins before f) own-names) (row_findings place host_row found)) (put piece.RowEnd) in
     let lacks = also_lacks (classes-lack host_row found) (authority-lacks f.is_authority) in
-    let own = with_key starts (front_after classes place before-are.0 lacks few) (comment_cell f.comment f.kind f.bits f.fingerprint (host-cells-are f cells)) long in
+    let own = with_key starts (front_after classes place before-are.0 lacks few) (comment_cell f.comment f.kind f.bits f.fingerprint (host-cells-are f cells)) (words_limits (role f.is_authority) (host-role-are f cells)) long in
     let none = also (also (also (also (also (also (also (class_none_all host_row found) (authority_none f.is_authority)) (numbers_none place)) (host_cells_none f)) limits_cell_none) (setting_none (codes "names ") (Some f.names))) (findings_none place host_row found)) row_end_none in
-    row_rows behind-row (row_of place f.comment f.fingerprint ∷ []) own (((((before-are, cells), x), names), findings), y) none rest
+    row_rows behind-row (row_of place f.comment f.fingerprint false ∷ []) own (((((before-are, cells), x), names), findings), y) none rest
 
 pub revoked_keyed : (place : RowPlace) (print names : List ℕ) (found : List HostFinding) → AreNumbers place → IsPrint print → IsOfBytes (revoked_row place print names found)
-    → HasKeyRows (revoked_row place print names found) (row_of place [] print ∷ [])
+    → HasKeyRows (revoked_row place print names found) (row_of place [] print false ∷ [])
 unfolding revoked_row
 revoked_keyed place print names found few long (((((a, cells), own-names), words), findings), y) rest =
     let classes = row_classes host_row found in
@@ -538,10 +547,10 @@ revoked_keyed place print names found few long (((((a, cells), own-names), words
     let listed = setting_part (codes "names ") (Some names) in
     let note = flag_part true (codes "in ssh it counts for these names alone") in
     let behind-row = before & revoked_cells print & listed & note & row_findings place host_row found & put piece.RowEnd in
-    let starts = more (more (more (more (inside before (revoked-cells-begin print)) listed) note) (row_findings place host_row found)) (put piece.RowEnd) in
-    let own = with_key starts (front_after classes place before-are.0 (classes-lack host_row found) few) (word_cell (codes "revoked") print (revoked-cells-are print cells)) long in
+    let starts = more (more (more (more (revoked-begins before print) listed) note) (row_findings place host_row found)) (put piece.RowEnd) in
+    let own = with_key starts (front_after classes place before-are.0 (classes-lack host_row found) few) (word_cell (codes "revoked") print (revoked-cells-are print cells)) (words_limits (codes "revoked") (revoked-word-are print cells)) long in
     let none = also (also (also (also (also (also (class_none_all host_row found) (numbers_none place)) (revoked_cells_none print)) (setting_none (codes "names ") (Some names))) (flag_none true (codes "in ssh it counts for these names alone"))) (findings_none place host_row found)) row_end_none in
-    row_rows behind-row (row_of place [] print ∷ []) own (((((before-are, cells), own-names), words), findings), y) none rest
+    row_rows behind-row (row_of place [] print false ∷ []) own (((((before-are, cells), own-names), words), findings), y) none rest
 
 pub bare_keyed : (place : RowPlace) (is : List ℕ) (held : Option HeldKey) (found : List HostFinding) → AreNumbers place → IsHeldPrint held → IsOfBytes (bare_row place is held found)
     → HasKeyRows (bare_row place is held found) (held_rows place held)
@@ -551,9 +560,9 @@ bare_keyed place is held found few long (((((((a, words), key), x), same), z), f
     let before = classes & row_numbers place in
     let before-are : IsOfBytes before = ((classes-are host_row found, tt), numbers-are place) in
     let behind-row = before & say is & held_part held & put piece.RightsCell & say is & put piece.LimitsCell & row_findings place host_row found & put piece.RowEnd in
-    let starts = more (more (more (more (spread before (say is) (held_part held) (put piece.RightsCell)) (say is)) (put piece.LimitsCell)) (row_findings place host_row found)) (put piece.RowEnd) in
+    let starts = more (more (bare-begins before (say is) (held_part held) (put piece.RightsCell) (say is) (put piece.LimitsCell)) (row_findings place host_row found)) (put piece.RowEnd) in
     let lacks = also_lacks (classes-lack host_row found) unreadable-lacks in
-    let own = with_held held starts (front_after classes place before-are.0 lacks few) (words, key) long in
+    let own = with_held held starts (front_after classes place before-are.0 lacks few) (words_limits is same) (words, key) long in
     let none = also (also (also (also (also (also (also (also (also (class_none_all host_row found) unreadable_none) (numbers_none place)) (said is)) (held_none held)) rights_cell_none) (said is)) limits_cell_none) (findings_none place host_row found)) row_end_none in
     row_rows behind-row (held_rows place held) own (((((((before-are, words), key), x), same), z), findings), end) none rest
 

@@ -19,6 +19,8 @@ pub mod ScanLemmas
 pub mod StableLemmas
 pub mod RunLemmas
 pub mod GroupLemmas
+pub mod SearchLemmas
+pub mod LimitLemmas
 pub mod KeyRowLemmas
 pub mod KeyLemmas
 pub mod KeyByteLemmas

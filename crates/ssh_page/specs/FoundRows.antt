@@ -1,6 +1,6 @@
 -- The rows that have a finding, read off the marked text of the sections (this project's rule). A row begins with its classes: a
 -- piece and a number for each code. Then come the number of its file and its own.
-use Rattle.std.specs.Prelude.{◌≡◌, ◌++◌, ◌∷◌, [], ◌==◌, ◌&&◌, ◌||◌, ◌*◌, ◌-◌, ◌^◌, ◌<◌, ℕ, Bool, false, not, min, List, Option, Some, None, if◌then◌else◌}
+use Rattle.std.specs.Prelude.{◌≡◌, ◌++◌, ◌∷◌, [], ◌==◌, ◌&&◌, ◌||◌, ◌*◌, ◌-◌, ◌^◌, ◌<◌, ℕ, Bool, false, min, List, Option, Some, None, if◌then◌else◌}
 use Rattle.std.specs.List.{list_any}
 use Rattle.std.specs.Option.{option_to_list}
 use Rattle.ssh_findings.specs.CodeCounts.{sum_within}

@@ -1,12 +1,14 @@
 -- Where each key stands (this project's rule): for each different key the lines that have it, as links to their rows.
 use Rattle.std.specs.Prelude.{◌++◌, ◌∷◌, [], ℕ, nat_lt, Bool, false, List, length, map, take, codes, if◌then◌else◌}
 use Rattle.std.specs.List.{flat_map}
+use Rattle.ssh_page.specs.declared.piece.Piece.{Piece}
 use Rattle.ssh_page.specs.declared.piece.Piece.TheVariants as piece
 use Rattle.ssh_page.specs.Documents.{Document, nothing, put, say, copied, count, each, ◌&◌}
 use Rattle.ssh_page.specs.Headers.{how_many}
 use Rattle.ssh_page.specs.KeyGroups.{KeyGroupSeen, by_key, groups_in}
 use Rattle.ssh_page.specs.KeyRows.{KeyRowSeen, rows_in}
 use Rattle.ssh_page.specs.Places.{LinesSeen, name_at, next_link, place_link}
+use Rattle.ssh_page.specs.Records.{put_if}
 use Rattle.ssh_page.specs.StandIns.{if_bytes}
 
 -- a comment as it stands in the section, or that there is none
@@ -26,16 +28,20 @@ key_counts files lines =
     say (codes " in ") & how_many files (codes " file") (codes " files") & say (codes ", on ")
     & how_many lines (codes " line") (codes " lines")
 
+-- that the rights of a row are limited, if they are
+abbrev pub limited_note : KeyRowSeen → Document
+limited_note r = put_if r.is_limited piece.Limited
+
 -- a link to a row, after a space
 abbrev pub row_link : List (List ℕ) → KeyRowSeen → Document
-row_link names r = next_link names r.place
+row_link names r = next_link names r.place & limited_note r
 
 -- a key with these rows, in so many files
 abbrev pub key_by : List (List ℕ) → ℕ → List KeyRowSeen → Document
 key_by names files [] = nothing
 key_by names files (r ∷ rows) =
-    key_head r & key_counts files (length (r ∷ rows)) & put piece.Places & place_link names r.place & each (row_link names) rows
-    & put piece.KeyEnd
+    key_head r & key_counts files (length (r ∷ rows)) & put piece.Places & place_link names r.place & limited_note r
+    & each (row_link names) rows & put piece.KeyEnd
 
 -- a key, and a link to each row that has it
 abbrev pub key_part : List (List ℕ) → KeyGroupSeen → Document
@@ -52,9 +58,13 @@ abbrev pub has_wide : List KeyGroupSeen → Bool
 has_wide [] = false
 has_wide (g ∷ groups) = is_wide g
 
+-- the end of the mark of a file: of a high one, or of a low one where the rights are limited
+abbrev pub column_end : KeyRowSeen → Piece
+column_end r = if r.is_limited then piece.LowColumnEnd else piece.ColumnEnd
+
 -- the mark of the file of a row
 unfoldable pub column : KeyRowSeen → Document
-column r = put piece.Column & count r.place.file & put piece.ColumnEnd
+column r = put piece.Column & count r.place.file & put (column_end r)
 
 -- a link to a key with this first row, and in how many files it is
 unfoldable pub picture_name : KeyRowSeen → ℕ → Document

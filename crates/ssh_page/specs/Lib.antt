@@ -18,6 +18,7 @@ pub mod KeyGroups
 pub mod KeyLists
 pub mod Sorting
 pub mod Mending
+pub mod Choices
 pub mod Pages
 pub mod StandIns
 pub mod RowClasses

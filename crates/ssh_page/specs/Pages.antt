@@ -3,6 +3,7 @@ use Rattle.std.specs.Prelude.{ℕ, List}
 use Rattle.ssh_page.specs.declared.header.PageTotals.{PageTotals}
 use Rattle.ssh_page.specs.declared.mend.CodeCount.{CodeCount}
 use Rattle.ssh_page.specs.declared.piece.Piece.TheVariants as piece
+use Rattle.ssh_page.specs.Choices.{choices}
 use Rattle.ssh_page.specs.Documents.{Document, marks, put, say, ◌&◌}
 use Rattle.ssh_page.specs.Files.{register}
 use Rattle.ssh_page.specs.Headers.{asked, tiles, verdict}
@@ -20,9 +21,9 @@ page_start title =
 abbrev pub header : QuestionSeen → PageTotals → Document
 header q t = verdict q t & tiles t & asked q
 
--- before the sections of the files, and behind them
-abbrev pub lines_start : Document
-lines_start = put piece.Lines
+-- before the sections of the files, where these codes were found, and behind them
+unfoldable pub lines_start : List CodeCount → Document
+lines_start found = put piece.Lines & choices found & put piece.Sections
 
 abbrev pub lines_end : Document
 lines_end = put piece.LinesEnd
@@ -39,5 +40,5 @@ page_lines names sections = record { names = names; sections = marks sections }
 -- the register with a row for each file and the total
 abbrev pub whole_page : List ℕ → QuestionSeen → PageTotals → List CodeCount → List (List ℕ) → Document → Document → List ℕ → Document
 whole_page title q t found names sections rows total =
-    page_start title & header q t & mend q t found (page_lines names sections) & keys (page_lines names sections) & lines_start
-    & sections & lines_end & register rows total & page_end
+    page_start title & header q t & mend q t found (page_lines names sections) & keys (page_lines names sections)
+    & lines_start found & sections & lines_end & register rows total & page_end

@@ -8,7 +8,7 @@ use Rattle.ssh_page.specs.declared.piece.Piece.{Piece}
 use Rattle.ssh_page.specs.declared.piece.Piece.TheVariants as piece
 use Rattle.ssh_page.specs.declared.piece.TheConstants.{MARKUP}
 use Rattle.ssh_page.specs.declared.style.TheConstants.{STYLE}
-use Rattle.ssh_page.specs.Tags.{Tag, opens, alone, closes, begins, goes_on, ends, reads, tags_html}
+use Rattle.ssh_page.specs.Tags.{Tag, opens, alone, closes, begins, begins_alone, goes_on, ends, reads, tags_html}
 
 -- its tags
 abbrev pub tags : Piece → List Tag
@@ -133,7 +133,7 @@ tags piece.Front =
     alone (codes "!DOCTYPE") (codes " html") ∷ reads (codes "\n") ∷ opens (codes "html") (codes " lang=\"en\"")
     ∷ reads (codes "\n") ∷ opens (codes "head") [] ∷ reads (codes "\n")
     ∷ alone (codes "meta") (codes " charset=\"utf-8\"") ∷ reads (codes "\n")
-    ∷ alone (codes "meta") (codes " http-equiv=\"Content-Security-Policy\" content=\"default-src 'none'; style-src 'sha256-ihuWkP69MtF0fK2gpRYuLMJVk2eAQ3EP4ZHE/M7l4zU='; base-uri 'none'; form-action 'none'\"")
+    ∷ alone (codes "meta") (codes " http-equiv=\"Content-Security-Policy\" content=\"default-src 'none'; style-src 'sha256-S4FoKF/lOgImnjo8OwJpwhH8ft6bcF4m8TTGtD2cWCU='; base-uri 'none'; form-action 'none'\"")
     ∷ reads (codes "\n")
     ∷ alone (codes "meta") (codes " name=\"viewport\" content=\"width=device-width, initial-scale=1\"")
     ∷ reads (codes "\n") ∷ alone (codes "meta") (codes " name=\"color-scheme\" content=\"light dark\"")
@@ -236,10 +236,11 @@ tags piece.Keys =
     ∷ opens (codes "p") (codes " class=\"says\"") ∷ []
 tags piece.Key = begins (codes "article") (codes " class=\"key\" id=\"k") ∷ []
 tags piece.KeyPrint = opens (codes "samp") [] ∷ reads (codes "SHA256:") ∷ []
+tags piece.Limited = reads (codes " ") ∷ opens (codes "i") [] ∷ reads (codes "(limited)") ∷ closes (codes "i") ∷ []
 tags piece.KeyEnd = closes (codes "p") ∷ reads (codes "\n") ∷ closes (codes "article") ∷ reads (codes "\n") ∷ []
 tags piece.Picture =
     opens (codes "table") (codes " class=\"mx\"") ∷ reads (codes "\n") ∷ opens (codes "caption") []
-    ∷ reads (codes "Keys in more than two files: each column is a file, in the order of the list of files.")
+    ∷ reads (codes "Keys in more than two files: each column is a file, in the order of the list of files. A mark is low where the key is limited.")
     ∷ closes (codes "caption") ∷ reads (codes "\n") ∷ opens (codes "thead") [] ∷ opens (codes "tr") []
     ∷ opens (codes "th") (codes " scope=\"col\"") ∷ reads (codes "Key") ∷ closes (codes "th")
     ∷ opens (codes "th") (codes " scope=\"col\"") ∷ reads (codes "Files") ∷ closes (codes "th")
@@ -254,14 +255,27 @@ tags piece.StripColumns =
     ∷ begins (codes "path") (codes " class=\"full\" d=\"") ∷ []
 tags piece.Column = goes_on (codes "M") ∷ []
 tags piece.ColumnEnd = goes_on (codes " 0h1v1h-1z") ∷ []
+tags piece.LowColumnEnd = goes_on (codes " .5h1v.5h-1z") ∷ []
 tags piece.StripEnd =
     ends (codes "\"") ∷ closes (codes "path") ∷ closes (codes "svg") ∷ closes (codes "td") ∷ closes (codes "tr")
     ∷ reads (codes "\n") ∷ []
 tags piece.PictureEnd = closes (codes "tbody") ∷ reads (codes "\n") ∷ closes (codes "table") ∷ reads (codes "\n") ∷ []
 tags piece.Lines =
     opens (codes "section") (codes " id=\"lines\"") ∷ reads (codes "\n") ∷ opens (codes "h2") []
-    ∷ reads (codes "Every line, by file") ∷ closes (codes "h2") ∷ reads (codes "\n")
-    ∷ opens (codes "div") (codes " class=\"all\"") ∷ reads (codes "\n") ∷ []
+    ∷ reads (codes "Every line, by file") ∷ closes (codes "h2") ∷ reads (codes "\n") ∷ []
+tags piece.Choices =
+    opens (codes "p") (codes " class=\"says\"")
+    ∷ reads (codes "A choice hides the other lines on the screen. On paper all lines stand.")
+    ∷ closes (codes "p") ∷ reads (codes "\n") ∷ opens (codes "b") (codes " class=\"show\"") ∷ reads (codes "Show")
+    ∷ closes (codes "b") ∷ reads (codes " ")
+    ∷ alone (codes "input") (codes " type=\"radio\" name=\"show\" id=\"s0\" checked")
+    ∷ opens (codes "label") (codes " for=\"s0\"") ∷ reads (codes "all lines") ∷ closes (codes "label") ∷ reads (codes "\n")
+    ∷ []
+tags piece.Choice = begins_alone (codes "input") (codes " type=\"radio\" name=\"show\" id=\"s") ∷ []
+tags piece.ChoiceLabel = ends (codes "\"") ∷ begins (codes "label") (codes " for=\"s") ∷ []
+tags piece.ChoiceWords = ends (codes "\"") ∷ []
+tags piece.ChoiceEnd = closes (codes "label") ∷ reads (codes "\n") ∷ []
+tags piece.Sections = opens (codes "div") (codes " class=\"all\"") ∷ reads (codes "\n") ∷ []
 tags piece.LinesEnd = closes (codes "div") ∷ reads (codes "\n") ∷ closes (codes "section") ∷ reads (codes "\n") ∷ []
 tags piece.PageEnd =
     closes (codes "main") ∷ reads (codes "\n") ∷ opens (codes "footer") [] ∷ opens (codes "p") []

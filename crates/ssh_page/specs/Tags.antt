@@ -3,12 +3,14 @@ use Rattle.std.specs.Prelude.{◌++◌, ◌∷◌, [], ◌==◌, ◌&&◌, ◌||
 use Rattle.std.specs.List.{flat_map, list_any}
 
 -- A part of constant markup: an opening tag with its attributes; an element without content; a closing tag; an opening tag up
--- to a number in the value of an attribute; what stands between two such numbers; the rest of the tag after the last one; words.
+-- to a number in the value of an attribute, and the tag of an element without content up to one; what stands between two such
+-- numbers; the rest of the tag after the last one; words.
 pub data Tag : Type 0 where
   opens : List ℕ → List ℕ → Tag
   alone : List ℕ → List ℕ → Tag
   closes : List ℕ → Tag
   begins : List ℕ → List ℕ → Tag
+  begins_alone : List ℕ → List ℕ → Tag
   goes_on : List ℕ → Tag
   ends : List ℕ → Tag
   reads : List ℕ → Tag
@@ -19,6 +21,7 @@ tag_html (opens name attributes) = codes "<" ++ name ++ attributes ++ codes ">"
 tag_html (alone name attributes) = codes "<" ++ name ++ attributes ++ codes ">"
 tag_html (closes name) = codes "</" ++ name ++ codes ">"
 tag_html (begins name attributes) = codes "<" ++ name ++ attributes
+tag_html (begins_alone name attributes) = codes "<" ++ name ++ attributes
 tag_html (goes_on attributes) = attributes
 tag_html (ends attributes) = attributes ++ codes ">"
 tag_html (reads words) = words
@@ -46,6 +49,7 @@ tag_within opened (opens name attributes) = within (name ∷ opened)
 tag_within opened (alone name attributes) = within opened
 tag_within opened (closes name) = closed name opened
 tag_within opened (begins name attributes) = valued (name ∷ opened)
+tag_within opened (begins_alone name attributes) = valued opened
 tag_within opened (goes_on attributes) = nowhere
 tag_within opened (ends attributes) = nowhere
 tag_within opened (reads words) = within opened
@@ -56,6 +60,7 @@ tag_valued opened (opens name attributes) = nowhere
 tag_valued opened (alone name attributes) = nowhere
 tag_valued opened (closes name) = nowhere
 tag_valued opened (begins name attributes) = nowhere
+tag_valued opened (begins_alone name attributes) = nowhere
 tag_valued opened (goes_on attributes) = valued opened
 tag_valued opened (ends attributes) = within opened
 tag_valued opened (reads words) = nowhere
@@ -85,6 +90,7 @@ is_sound (opens name attributes) = has_no_angle (name ++ attributes) && not (ope
 is_sound (alone name attributes) = has_no_angle (name ++ attributes) && not (opens_value attributes)
 is_sound (closes name) = has_no_angle name
 is_sound (begins name attributes) = has_no_angle (name ++ attributes) && opens_value attributes
+is_sound (begins_alone name attributes) = has_no_angle (name ++ attributes) && opens_value attributes
 is_sound (goes_on attributes) = has_no_angle attributes && not (opens_value attributes)
 is_sound (ends attributes) = has_no_angle attributes && opens_value attributes
 is_sound (reads words) = not (list_any (λ c. c == 60) words)

@@ -4,7 +4,7 @@ ghost use Rattle.std.specs.Prelude.{◌≡◌, ◌++◌, OnOk, map, take};
 ghost use Rattle.std.specs.List.{flat_map};
 ghost use Rattle.ssh_page.specs.Documents.{each, marks};
 ghost use Rattle.ssh_page.specs.KeyGroups.{group_seen};
-ghost use Rattle.ssh_page.specs.KeyLists.{column, has_wide, is_wide, picture, picture_name, picture_row};
+ghost use Rattle.ssh_page.specs.KeyLists.{column, column_end, has_wide, is_wide, picture, picture_name, picture_row};
 ghost use Rattle.ssh_page.specs.KeyRows.{row_seen};
 
 use crate::key_groups::KeyGroup;
@@ -25,6 +25,17 @@ fn is_wide(group: &KeyGroup<'_, '_>) -> bool
     group.files > 2
 }
 
+/// The end of the mark of a file: a high mark, or a low one where the rights are limited.
+fn column_end(row: &KeyRow<'_>) -> Piece
+    ensures { result ≡ column_end (row_seen row.now) }
+{
+    if row.is_limited {
+        Piece::LowColumnEnd
+    } else {
+        Piece::ColumnEnd
+    }
+}
+
 /// Appends the mark of a file.
 #[tactic(auto, unfolding(crate::specs::KeyLists::column))]
 fn push_column(out: &mut Vec<u8>, row: &KeyRow<'_>) -> Result<(), AllocError>
@@ -32,7 +43,7 @@ fn push_column(out: &mut Vec<u8>, row: &KeyRow<'_>) -> Result<(), AllocError>
 {
     push_piece(out, Piece::Column)?;
     push_number(out, row.place.file)?;
-    push_piece(out, Piece::ColumnEnd)?;
+    push_piece(out, column_end(row))?;
     Ok(())
 }
 

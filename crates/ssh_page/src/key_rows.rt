@@ -1,9 +1,10 @@
 //! The rows that have a key, read off the marked text of the sections: where they are, whose key it
-//! is, and its fingerprint. So no memory is needed for them while files are read.
+//! is, its fingerprint, and whether its rights are limited. So no memory is needed for them while files
+//! are read.
 
 ghost use Rattle.std.specs.Prelude.{◌≡◌, ◌++◌, IfOk, OnOk, map, option_map};
 ghost use Rattle.std.specs.Option.{option_to_list};
-ghost use Rattle.ssh_page.specs.KeyRows.{behind, fingerprint, front_text, key_row, cell_comment, number_of, print_in, row_place, row_seen, rows_in};
+ghost use Rattle.ssh_page.specs.KeyRows.{behind, fingerprint, free_pieces, front_text, has_front, has_rights, is_limited, key_row, cell_comment, number_of, print_in, row_place, row_seen, rows_in};
 ghost use Rattle.ssh_page.specs.Shown.{is_printable};
 
 use crate::found_rows::{after_piece, with_digit};
@@ -19,6 +20,8 @@ pub(crate) struct KeyRow<'a> {
     pub(crate) name: &'a [u8],
     /// The fingerprint of its key.
     pub(crate) key: [u8; 43],
+    /// It has not all rights, or something limits it.
+    pub(crate) is_limited: bool,
 }
 
 fn is_printable(byte: u8) -> bool
@@ -111,6 +114,59 @@ fn row_place(marks: &[u8]) -> RowPlace
     }
 }
 
+/// Whether a marked text begins with these pieces.
+fn has_front(pieces: &[Piece], marks: &[u8]) -> bool
+    ensures { result ≡ has_front pieces.now marks.now }
+{
+    let mut wanted = pieces;
+    let mut rest = marks;
+    while let [piece, others @ ..] = wanted {
+        match rest {
+            [byte, more @ ..] if *byte == piece.mark() => {
+                wanted = others;
+                rest = more;
+            }
+            _ => return false,
+        }
+    }
+    true
+}
+
+/// Whether rights stand in the cell of the rights. In those of hosts and of lines that cannot be read
+/// there are none.
+fn has_rights(cell: &[u8]) -> bool
+    ensures { result ≡ has_rights cell.now }
+{
+    has_front(&[Piece::Port], cell)
+        || has_front(&[Piece::RightOff], cell)
+        || has_front(&[Piece::NoRights], cell)
+}
+
+/// What stands in the cells of rights and limits where all rights are on and nothing limits the key.
+fn is_unlimited(cell: &[u8]) -> bool
+    ensures { result ≡ has_front free_pieces cell.now }
+{
+    has_front(
+        &[
+            Piece::Port,
+            Piece::Agent,
+            Piece::X11,
+            Piece::Pty,
+            Piece::UserRc,
+            Piece::LimitsCell,
+            Piece::NoLimit,
+        ],
+        cell,
+    )
+}
+
+/// Whether rights stand in the cell of the rights, and they are not all, or something limits the key.
+fn is_limited(cell: &[u8]) -> bool
+    ensures { result ≡ is_limited cell.now }
+{
+    has_rights(cell) && !is_unlimited(cell)
+}
+
 /// The row whose first piece stands in front of this, if it has a key.
 fn key_row(marks: &[u8]) -> Option<KeyRow<'_>>
     ensures { option_map row_seen result ≡ key_row marks.now }
@@ -121,6 +177,7 @@ fn key_row(marks: &[u8]) -> Option<KeyRow<'_>>
             place: row_place(marks),
             name: cell_comment(cell),
             key,
+            is_limited: is_limited(behind(cell, Piece::RightsCell)),
         }),
         None => None,
     }

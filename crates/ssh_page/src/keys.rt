@@ -4,7 +4,7 @@ ghost use Rattle.std.specs.Prelude.{◌≡◌, ◌++◌, OnOk, map};
 ghost use Rattle.std.specs.List.{flat_map};
 ghost use Rattle.ssh_page.specs.Documents.{each, marks};
 ghost use Rattle.ssh_page.specs.KeyGroups.{group_seen};
-ghost use Rattle.ssh_page.specs.KeyLists.{key_counts, key_head, key_list, key_part, keys, list_head, name_part, row_link};
+ghost use Rattle.ssh_page.specs.KeyLists.{key_counts, key_head, key_list, key_part, keys, limited_note, list_head, name_part, row_link};
 ghost use Rattle.ssh_page.specs.KeyRows.{row_seen};
 ghost use Rattle.ssh_page.specs.Places.{lines_seen};
 
@@ -15,6 +15,7 @@ use crate::key_rows::KeyRow;
 use crate::marks::{push_copied, push_piece};
 use crate::piece::Piece;
 use crate::places::{PageLines, push_next_link, push_place_link};
+use crate::record::push_if;
 use ssh_print::{push_number, push_shown};
 use ssh_text::Bytes;
 use std::alloc::{AllocError, Global};
@@ -61,12 +62,21 @@ fn push_key_head(out: &mut Vec<u8>, first: &KeyRow<'_>) -> Result<(), AllocError
     Ok(())
 }
 
+/// Appends that the rights of a row are limited, if they are.
+fn push_limited_note(out: &mut Vec<u8>, row: &KeyRow<'_>) -> Result<(), AllocError>
+    ensures { OnOk result (out.new.items ≡ out.old.items ++ marks (limited_note (row_seen row.now))) }
+{
+    push_if(out, row.is_limited, Piece::Limited)
+}
+
 /// Appends a link to a row, after a space.
 fn push_row_link(out: &mut Vec<u8>, names: &[Bytes], row: &KeyRow<'_>) -> Result<(), AllocError>
     ensures { OnOk result (out.new.items
         ≡ out.old.items ++ marks (row_link names.now (row_seen row.now))) }
 {
-    push_next_link(out, names, row.place)
+    push_next_link(out, names, row.place)?;
+    push_limited_note(out, row)?;
+    Ok(())
 }
 
 fn push_row_links(out: &mut Vec<u8>, names: &[Bytes], rows: &[KeyRow<'_>]) -> Result<(), AllocError>
@@ -91,6 +101,7 @@ fn push_key(out: &mut Vec<u8>, names: &[Bytes], group: &KeyGroup<'_, '_>) -> Res
     push_key_counts(out, group.files, group.rows.len() as u64)?;
     push_piece(out, Piece::Places)?;
     push_place_link(out, names, first.place)?;
+    push_limited_note(out, first)?;
     push_row_links(out, names, rest)?;
     push_piece(out, Piece::KeyEnd)?;
     Ok(())

@@ -1,6 +1,6 @@
 //! Laws of the page, proved of functions without a body: no text of a file can become markup.
 
-ghost use Rattle.std.specs.Prelude.{◌≡◌, ◌++◌, ◌∷◌, [], ℕ, true, codes, List, Option};
+ghost use Rattle.std.specs.Prelude.{◌≡◌, ◌++◌, ◌∷◌, [], ℕ, true, false, not, codes, List, Option};
 ghost use Rattle.std.specs.Fmt.{decimal};
 ghost use Rattle.std.specs.List.{AllByRecursion, list_all};
 ghost use Rattle.std.specs.List.Sorted.{IsPermutation};
@@ -20,6 +20,7 @@ ghost use Rattle.ssh_page.specs.declared.header.PageTotals.{PageTotals};
 ghost use Rattle.ssh_page.specs.declared.mend.CodeCount.{CodeCount};
 ghost use Rattle.ssh_page.specs.declared.piece.Piece.{Piece};
 ghost use Rattle.ssh_page.specs.declared.record.RowPlace.{RowPlace};
+ghost use Rattle.ssh_page.specs.Choices.{choices};
 ghost use Rattle.ssh_page.specs.Documents.{◌&◌, Document, IsOfBytes, after, html, marks, pieces_of, texts_of};
 ghost use Rattle.ssh_page.specs.Expanding.{delimiters, page, text_html, without_text};
 ghost use Rattle.ssh_page.specs.Files.{ClassesSeen, FileSeen, empty_section, fault_row, fault_section, file_row, register, section};
@@ -27,7 +28,7 @@ ghost use Rattle.ssh_page.specs.FoundRows.{AreNumbers, HasPlaces, found_place};
 ghost use Rattle.ssh_page.specs.HostRecords.{bare_row, host_entry_row, revoked_row};
 ghost use Rattle.ssh_page.specs.KeyGroups.{AreOfOneKey, KeyGroupSeen, by_key, groups_in, grouped_rows};
 ghost use Rattle.ssh_page.specs.KeyLists.{keys, keys_texts};
-ghost use Rattle.ssh_page.specs.KeyRows.{HasKeyRows, IsHeldPrint, IsPrint, KeyRowSeen, held_rows, row_of};
+ghost use Rattle.ssh_page.specs.KeyRows.{HasKeyRows, IsHeldPrint, IsPrint, KeyRowSeen, held_rows, is_unlimited, row_of};
 ghost use Rattle.ssh_page.specs.Mending.{mend, mend_names};
 ghost use Rattle.ssh_page.specs.Pages.{header, whole_page};
 ghost use Rattle.ssh_page.specs.Pieces.{tags};
@@ -136,7 +137,7 @@ fn shape_rule()
 {}
 
 /// Each text of a line stands in its row once, between `<code>` and `</code>`, in the order of the
-/// text format, and nothing else stands so. No text of a file stands in the header. In what has to be
+/// text format, and nothing else stands so. No text of a file stands in the header or in a choice. In what has to be
 /// mended the names of files stand so, one for each line that is listed, and nothing else does. In the
 /// list of keys the comment of the first line of a key does too, as it stands in its row.
 fn texts_rule()
@@ -151,6 +152,7 @@ fn texts_rule()
     ensures bare { (place : RowPlace) (is : List ℕ) (held : Option HeldKey) (found : List HostFinding)
         → texts_of (bare_row place is held found) ≡ [] }
     ensures header { (q : QuestionSeen) (t : PageTotals) → texts_of (header q t) ≡ [] }
+    ensures choices { (found : List CodeCount) → texts_of (choices found) ≡ [] }
     ensures mend { (q : QuestionSeen) (t : PageTotals) (found : List CodeCount) (l : LinesSeen)
         → texts_of (mend q t found l) ≡ mend_names l found }
     ensures keys { (l : LinesSeen) → texts_of (keys l) ≡ keys_texts l }
@@ -191,22 +193,25 @@ fn places_rule()
 {}
 
 /// Each line with a key is one row of those that the list of keys is made of, with the numbers of its
-/// file and of itself, its comment and its key, and nothing else in a section is one. Each of these rows
-/// is in the list exactly once, with all others of its key and in their order. Whatever stands in the
+/// file and of itself, its comment and its key, and nothing else in a section is one. Its rights are
+/// limited there unless the line has all of them and nothing limits the key. Each of these rows is in
+/// the list exactly once, with all others of its key and in their order. Whatever stands in the
 /// sections, what the list copies from them is printable.
 fn keys_rule()
     ensures entry { (place : RowPlace) (f : Facts) (found : List Finding)
         → AreNumbers place → IsPrint f.fingerprint → IsOfBytes (entry_row place f found)
-        → HasKeyRows (entry_row place f found) (row_of place f.comment f.fingerprint ∷ []) }
+        → HasKeyRows (entry_row place f found)
+        (row_of place f.comment f.fingerprint (not (is_unlimited f)) ∷ []) }
     ensures unreadable { (place : RowPlace) (held : Option HeldKey) (found : List Finding)
         → AreNumbers place → IsHeldPrint held → IsOfBytes (unreadable_row place held found)
         → HasKeyRows (unreadable_row place held found) (held_rows place held) }
     ensures host_entry { (place : RowPlace) (f : HostFacts) (found : List HostFinding)
         → AreNumbers place → IsPrint f.fingerprint → IsOfBytes (host_entry_row place f found)
-        → HasKeyRows (host_entry_row place f found) (row_of place f.comment f.fingerprint ∷ []) }
+        → HasKeyRows (host_entry_row place f found)
+        (row_of place f.comment f.fingerprint false ∷ []) }
     ensures revoked { (place : RowPlace) (print names : List ℕ) (found : List HostFinding)
         → AreNumbers place → IsPrint print → IsOfBytes (revoked_row place print names found)
-        → HasKeyRows (revoked_row place print names found) (row_of place [] print ∷ []) }
+        → HasKeyRows (revoked_row place print names found) (row_of place [] print false ∷ []) }
     ensures bare { (place : RowPlace) (is : List ℕ) (held : Option HeldKey)
         (found : List HostFinding)
         → AreNumbers place → IsHeldPrint held → IsOfBytes (bare_row place is held found)

@@ -16,6 +16,7 @@
 //! ```
 #![tactic(auto)]
 
+mod choices;
 mod classes;
 mod expanding;
 mod file;

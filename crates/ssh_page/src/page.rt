@@ -5,11 +5,12 @@
 //! `push_page_end`. The sections are made first: `push_mend` reads the lines that it lists off them.
 
 ghost use Rattle.std.specs.Prelude.{◌≡◌, ◌++◌, OnOk};
-ghost use Rattle.ssh_page.specs.Documents.{marks, put};
-ghost use Rattle.ssh_page.specs.Pages.{page_end, page_start};
-ghost use Rattle.ssh_page.specs.declared.piece.Piece.TheVariants.{Lines, LinesEnd};
+ghost use Rattle.ssh_page.specs.Documents.{marks};
+ghost use Rattle.ssh_page.specs.Pages.{lines_end, lines_start, page_end, page_start};
 
+use crate::choices::push_choices;
 use crate::marks::push_piece;
+use crate::mend::CodeCount;
 use crate::piece::Piece;
 use ssh_print::push_shown;
 use std::alloc::AllocError;
@@ -29,16 +30,21 @@ pub fn push_page_start(out: &mut Vec<u8>, title: &[u8]) -> Result<(), AllocError
     Ok(())
 }
 
-/// Appends what comes before the sections of the files.
-pub fn push_lines_start(out: &mut Vec<u8>) -> Result<(), AllocError>
-    ensures { OnOk result (out.new.items ≡ out.old.items ++ marks (put Lines)) }
+/// Appends what comes before the sections of the files, with a choice for each code that was found.
+/// `found` has each of these once, in ascending order.
+#[tactic(auto, unfolding(crate::specs::Pages::lines_start))]
+pub fn push_lines_start(out: &mut Vec<u8>, found: &[CodeCount]) -> Result<(), AllocError>
+    ensures { OnOk result (out.new.items ≡ out.old.items ++ marks (lines_start found.now)) }
 {
-    push_piece(out, Piece::Lines)
+    push_piece(out, Piece::Lines)?;
+    push_choices(out, found)?;
+    push_piece(out, Piece::Sections)?;
+    Ok(())
 }
 
 /// Appends what comes after the sections of the files.
 pub fn push_lines_end(out: &mut Vec<u8>) -> Result<(), AllocError>
-    ensures { OnOk result (out.new.items ≡ out.old.items ++ marks (put LinesEnd)) }
+    ensures { OnOk result (out.new.items ≡ out.old.items ++ marks lines_end) }
 {
     push_piece(out, Piece::LinesEnd)
 }

@@ -125,6 +125,7 @@ pub(crate) enum Piece {
     Keys,
     Key,
     KeyPrint,
+    Limited,
     KeyEnd,
     // The keys in many files, as a picture: a row for each, and in it a column for each file.
     Picture,
@@ -133,17 +134,24 @@ pub(crate) enum Piece {
     StripColumns,
     Column,
     ColumnEnd,
+    LowColumnEnd,
     StripEnd,
     PictureEnd,
-    // The lines of all files, around their sections.
+    // The lines of all files: the choices of one code, and what stands around the sections.
     Lines,
+    Choices,
+    Choice,
+    ChoiceLabel,
+    ChoiceWords,
+    ChoiceEnd,
+    Sections,
     LinesEnd,
     // The end of the page.
     PageEnd,
 }
 
 /// The HTML of each piece.
-static MARKUP: [&str; 112] = [
+static MARKUP: [&str; 120] = [
     "<code>",
     "</code>",
     "<tr class=\"ln",
@@ -202,7 +210,7 @@ static MARKUP: [&str; 112] = [
     "</td></tr>\n",
     "</tbody>\n</table>\n<p>",
     "<section id=\"sign\">\n<h2>Sign</h2>\n<p>The review says what the lines of these files give. It does not read sshd_config, file permissions or key revocation lists, and it does not know who holds a key. Count a line that cannot be read (F1) as access. \"Keep\" is a decision of the people who sign.</p>\n<table class=\"sg\">\n<thead><tr><td></td><th scope=\"col\">Reviewed by</th><th scope=\"col\">Approved by</th></tr></thead>\n<tbody>\n<tr><th scope=\"row\">Name, role</th><td></td><td></td></tr>\n<tr><th scope=\"row\">Date</th><td></td><td></td></tr>\n<tr><th scope=\"row\">Compared with the review of</th><td></td><td></td></tr>\n<tr><th scope=\"row\">To be removed or mended, by when, by whom</th><td></td><td></td></tr>\n<tr><th scope=\"row\">Signature</th><td></td><td></td></tr>\n</tbody>\n</table>\n<p>To sign the file itself: <kbd>ssh-keygen -Y sign -n access-review -f KEY PAGE</kbd>. To see whether a file of the list is still the same: <kbd>sha256sum FILE</kbd>. What changed since the last review is a difference of two JSON lists: docs/RECIPES.md.</p>\n</section>\n",
-    "<!DOCTYPE html>\n<html lang=\"en\">\n<head>\n<meta charset=\"utf-8\">\n<meta http-equiv=\"Content-Security-Policy\" content=\"default-src 'none'; style-src 'sha256-ihuWkP69MtF0fK2gpRYuLMJVk2eAQ3EP4ZHE/M7l4zU='; base-uri 'none'; form-action 'none'\">\n<meta name=\"viewport\" content=\"width=device-width, initial-scale=1\">\n<meta name=\"color-scheme\" content=\"light dark\">\n<meta name=\"format-detection\" content=\"telephone=no, date=no, address=no, email=no\">\n<meta name=\"robots\" content=\"noindex\">\n<title>",
+    "<!DOCTYPE html>\n<html lang=\"en\">\n<head>\n<meta charset=\"utf-8\">\n<meta http-equiv=\"Content-Security-Policy\" content=\"default-src 'none'; style-src 'sha256-S4FoKF/lOgImnjo8OwJpwhH8ft6bcF4m8TTGtD2cWCU='; base-uri 'none'; form-action 'none'\">\n<meta name=\"viewport\" content=\"width=device-width, initial-scale=1\">\n<meta name=\"color-scheme\" content=\"light dark\">\n<meta name=\"format-detection\" content=\"telephone=no, date=no, address=no, email=no\">\n<meta name=\"robots\" content=\"noindex\">\n<title>",
     "</title>\n<style>\n",
     STYLE,
     "</style>\n</head>\n<body>\n<a class=\"skip\" href=\"#mend\">To what has to be mended</a>\n<header>\n<p class=\"org\">ssh_audit review</p>\n<h1>",
@@ -244,16 +252,24 @@ static MARKUP: [&str; 112] = [
     "<section id=\"keys\">\n<h2>Where each key stands</h2>\n<p class=\"says\">",
     "<article class=\"key\" id=\"k",
     "<samp>SHA256:",
+    " <i>(limited)</i>",
     "</p>\n</article>\n",
-    "<table class=\"mx\">\n<caption>Keys in more than two files: each column is a file, in the order of the list of files.</caption>\n<thead><tr><th scope=\"col\">Key</th><th scope=\"col\">Files</th><th scope=\"col\">Where</th></tr></thead>\n<tbody>\n",
+    "<table class=\"mx\">\n<caption>Keys in more than two files: each column is a file, in the order of the list of files. A mark is low where the key is limited.</caption>\n<thead><tr><th scope=\"col\">Key</th><th scope=\"col\">Files</th><th scope=\"col\">Where</th></tr></thead>\n<tbody>\n",
     "<tr><th scope=\"row\"><a href=\"#k",
     "</td><td><svg class=\"strip\" viewBox=\"0 0 ",
     " 1\" preserveAspectRatio=\"none\" aria-hidden=\"true\"><path class=\"full\" d=\"",
     "M",
     " 0h1v1h-1z",
+    " .5h1v.5h-1z",
     "\"></path></svg></td></tr>\n",
     "</tbody>\n</table>\n",
-    "<section id=\"lines\">\n<h2>Every line, by file</h2>\n<div class=\"all\">\n",
+    "<section id=\"lines\">\n<h2>Every line, by file</h2>\n",
+    "<p class=\"says\">A choice hides the other lines on the screen. On paper all lines stand.</p>\n<b class=\"show\">Show</b> <input type=\"radio\" name=\"show\" id=\"s0\" checked><label for=\"s0\">all lines</label>\n",
+    "<input type=\"radio\" name=\"show\" id=\"s",
+    "\"><label for=\"s",
+    "\">",
+    "</label>\n",
+    "<div class=\"all\">\n",
     "</div>\n</section>\n",
     "</main>\n<footer><p>Written by ssh_audit review --form html. No script, nothing from outside, no link out.</p></footer>\n</body>\n</html>\n",
 ];

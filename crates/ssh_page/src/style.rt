@@ -42,18 +42,14 @@ h3.a{color:var(--a)}h3.b{color:var(--b)}h3.c{color:var(--c)}h3.p{color:var(--p)}
 .mean{font-weight:600}
 .places{line-height:1.75;word-spacing:.35em;max-height:12.3em;overflow:auto}
 .places a{white-space:nowrap;word-spacing:0;text-decoration-color:var(--line)}.places a:hover{text-decoration-color:currentColor}.places a code{white-space:pre;background:none;padding:0}
-.pc{color:var(--a);font-size:.8em}.nb{color:var(--dim);font-size:.87em}
-.nb code{display:inline-block;max-height:3em;overflow:hidden;vertical-align:top}
 .key{background:var(--card);border:1px solid var(--line);border-radius:6px;padding:.7em 1em;margin:.7em 0}
 .key h3{margin:0;max-height:4.6em;overflow:auto}.key>p{color:var(--dim);margin:.1em 0 .5em;font-size:.93em}
 i{color:var(--dim)}
-.g{display:grid;grid-template-columns:15.5em minmax(9em,21em) 1fr;gap:.2em 1.2em;border-top:1px solid var(--line);padding:.45em 0}
-.g p,.lim p{margin:0}.lim{font-size:.93em;overflow-wrap:anywhere;max-height:12em;overflow:auto}
-.acc,.r{white-space:nowrap}
-.acc b,.r b,.acc i:empty,.r i:empty{display:inline-block;min-width:3em;font-size:.8rem;line-height:1.5;text-align:center;border-radius:3px;margin:1px 2px 1px 0;padding:0 .25em}
-.acc b,.r b{font-weight:600;color:var(--on);border:1px solid var(--on)}.acc i:empty,.r i:empty{border:1px dashed var(--line)}.acc i:empty::before,.r i:empty::before{content:"\A0"}
+.r{white-space:nowrap}
+.r b,.r i:empty{display:inline-block;min-width:3em;font-size:.8rem;line-height:1.5;text-align:center;border-radius:3px;margin:1px 2px 1px 0;padding:0 .25em}
+.r b{font-weight:600;color:var(--on);border:1px solid var(--on)}.r i:empty{border:1px dashed var(--line)}.r i:empty::before{content:"\A0"}
 .nl{color:var(--dim)}
-.acc b.no,.r b.no{border-style:dashed;color:var(--dim);border-color:var(--dim)}
+.r b.no{border-style:dashed;color:var(--dim);border-color:var(--dim)}
 table{border-collapse:collapse;width:100%}
 th,td{text-align:left;vertical-align:top;padding:.4em .6em;border-bottom:1px solid var(--line)}
 thead th{font-size:.82rem;color:var(--dim);font-weight:600;border-bottom:2px solid var(--line)}
@@ -61,7 +57,7 @@ td.n,.reg th:nth-child(n+2):nth-child(-n+5){text-align:right;font-variant-numeri
 caption{text-align:left;color:var(--dim);padding:.3em 0 .6em;caption-side:top}
 .mx{background:var(--card);border:1px solid var(--line);border-radius:6px;margin:.8em 0 1.6em}
 .mx caption{padding:.4em 0}.mx th,.mx td{padding:.16em .6em;border-color:transparent}.mx tbody th{font-weight:400;max-width:15em;width:15em;white-space:nowrap;overflow:hidden;text-overflow:ellipsis}.mx tbody th samp{font-size:.8em}.mx tbody th code{white-space:pre;background:none;padding:0}.mx td.n{width:4em}
-.strip{display:block;width:100%;height:1.35em;background:var(--code)}.full{fill:var(--on)}.half{fill:var(--on);opacity:.62}
+.strip{display:block;width:100%;height:1.35em;background:var(--code)}.full{fill:var(--on)}
 .fl{background:var(--card);border:1px solid var(--line);border-radius:6px;padding:.2em 1em .8em;margin:1em 0}
 .t{content-visibility:auto}.fl>.t{contain-intrinsic-size:auto 30em}.key>.t{contain-intrinsic-size:auto 6em}
 .fl h3{margin:.7em 0 0}.fl h3 code{background:none;padding:0;font-size:1em;font-weight:700}.fl>p{color:var(--dim);margin:.1em 0 .5em}
@@ -77,6 +73,49 @@ caption{text-align:left;color:var(--dim);padding:.3em 0 .6em;caption-side:top}
 .f.p{color:var(--p);background:var(--pbg)}.f.c{color:var(--c);background:var(--cbg)}.f.b{color:var(--b);background:var(--bbg)}.f.a{color:var(--a);background:var(--abg)}.f a{color:inherit}
 strong.a{color:var(--a)}
 #lines>input{margin:0;vertical-align:-.1em}#lines>label{white-space:nowrap;margin-right:1em;line-height:1.9}.show{margin-right:.6em}#lines>label::before{content:"\A0"}
+#lines>input:checked+label{font-weight:600}
+@media screen{
+#s1:checked~.all .ln:not(.F1),
+#s2:checked~.all .ln:not(.F2),
+#s3:checked~.all .ln:not(.F3),
+#s4:checked~.all .ln:not(.F4),
+#s5:checked~.all .ln:not(.F5),
+#s6:checked~.all .ln:not(.F6),
+#s7:checked~.all .ln:not(.F7),
+#s8:checked~.all .ln:not(.F8),
+#s9:checked~.all .ln:not(.F9),
+#s10:checked~.all .ln:not(.F10),
+#s11:checked~.all .ln:not(.F11),
+#s12:checked~.all .ln:not(.F12),
+#s13:checked~.all .ln:not(.F13),
+#s14:checked~.all .ln:not(.F14),
+#s15:checked~.all .ln:not(.F15),
+#s16:checked~.all .ln:not(.F16),
+#s17:checked~.all .ln:not(.F17),
+#s18:checked~.all .ln:not(.F18),
+#s19:checked~.all .ln:not(.F19),
+#s20:checked~.all .ln:not(.F20),
+#s21:checked~.all .ln:not(.F21),
+#s22:checked~.all .ln:not(.F22),
+#s23:checked~.all .ln:not(.F23),
+#s24:checked~.all .ln:not(.F24),
+#s25:checked~.all .ln:not(.F25),
+#s26:checked~.all .ln:not(.F26),
+#s27:checked~.all .ln:not(.F27),
+#s28:checked~.all .ln:not(.F28),
+#s29:checked~.all .ln:not(.F29),
+#s30:checked~.all .ln:not(.F30),
+#s31:checked~.all .ln:not(.F31),
+#s32:checked~.all .ln:not(.F32),
+#s33:checked~.all .ln:not(.F33),
+#s34:checked~.all .ln:not(.F34),
+#s35:checked~.all .ln:not(.F35),
+#s36:checked~.all .ln:not(.F36),
+#s37:checked~.all .ln:not(.F37),
+#s38:checked~.all .ln:not(.F38),
+#s39:checked~.all .ln:not(.F39),
+#s40:checked~.all .ln:not(.F40){display:none}
+}
 .reg td,.reg th{padding:.25em .6em}.reg tbody th{font-weight:400;overflow-wrap:anywhere}.reg code{background:none;padding:0}.reg samp{font-size:.76rem}
 .sg{max-width:60em}.sg td{border:1px solid var(--line);height:2.6em;width:38%;background:var(--card)}.sg thead td{border:0;background:none;width:24%}.sg tr:last-child td{height:4.5em}
 footer{color:var(--dim);font-size:.87rem;margin-top:2em}
@@ -85,7 +124,6 @@ body{padding:0 12px 40px}h1{font-size:1.5rem}
 .asked{grid-template-columns:1fr;gap:0}.asked dd{margin-bottom:.4em}
 .tiles li{flex:1 1 28%;padding:.4em .7em}
 .codes dt{grid-template-columns:2.6em 2.8em 1fr}.codes .mean{grid-column:1/-1}.codes dd{margin-left:0}
-.g{grid-template-columns:1fr}
 .mx tbody th{max-width:9.5em;width:9.5em}.mx td,.mx th{padding:.16em .35em}
 .fl{padding:.2em .7em .6em}.fl table,.fl tbody,.reg,.reg tbody{display:block}.fl thead,.reg thead{position:absolute;left:-999em}
 .ln{display:grid;grid-template-columns:3em 1fr;border-bottom:1px solid var(--line);padding:.35em 0}.ln:last-child{border:0}
@@ -102,14 +140,14 @@ html{font-size:8pt;line-height:1.3;background:#fff}body{max-width:none;padding:0
 nav,.skip,#lines>input,#lines>label,.show,.show~.says,#lines>.says{display:none}
 h2{margin-top:1.2em}
 .t{content-visibility:visible}.key,.fl{border:0;border-top:1px solid var(--line);border-radius:0;padding:.25em 0;margin:.4em 0}
-.places,.lim,.k code,.w code{max-height:none;overflow:visible}.k code,.w code{display:inline}.places{line-height:1.4}
+.places,.k code,.w code{max-height:none;overflow:visible}.k code,.w code{display:inline}.places{line-height:1.4}
 .key h3{max-height:2.8em;overflow:hidden}
 h2,h3,.says{break-after:avoid}.ln,.codes dt,.key h3{break-inside:avoid}
 #keys,#lines,#files,#sign{break-before:page}#sign{break-inside:avoid}
 a{color:inherit;text-decoration:none}
 th,td{padding:.2em .4em}
-.g{grid-template-columns:13em 15em 1fr 12em;padding:.2em 0;gap:.1em .7em}.places{font-size:.93em}.g::after{content:"\25A1 keep   \25A1 remove   \25A1 ask";white-space:pre;text-align:right}
-.fl thead th:nth-child(1){width:3em}.fl thead th:nth-child(2){width:38%}.fl thead th:nth-child(3){width:16em}.acc b,.r b,.acc i:empty,.r i:empty{font-size:6pt;line-height:1.25;min-width:2.8em}
+.places{font-size:.93em}.key>.places::after{display:block;content:"\25A1 keep   \25A1 remove   \25A1 ask";white-space:pre;text-align:right}
+.fl thead th:nth-child(1){width:3em}.fl thead th:nth-child(2){width:38%}.fl thead th:nth-child(3){width:16em}.r b,.r i:empty{font-size:6pt;line-height:1.25;min-width:2.8em}
 .reg td,.reg th{padding:.12em .4em}.reg samp{font-size:5.8pt}.k samp,.ty{font-size:6.4pt}.k samp{white-space:nowrap;letter-spacing:-.02em}
 .mx tbody th{max-width:14em}.strip{height:1.1em}
 }

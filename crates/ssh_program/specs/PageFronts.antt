@@ -72,7 +72,7 @@ page_totals total found = record {
 -- before the first section: the title, the header, what has to be mended, and where each key stands
 abbrev pub page_front : List ℕ → QuestionSeen → PageTotals → List CodeCount → LinesSeen → List ℕ
 page_front title q t found l =
-    marks (page_start title) ++ marks (header q t) ++ marks (mend q t found l) ++ marks (keys l) ++ marks lines_start
+    marks (page_start title) ++ marks (header q t) ++ marks (mend q t found l) ++ marks (keys l) ++ marks (lines_start found)
 
 -- by the lines and the total of all files
 abbrev pub front_of : List ℕ → FileKind → List ℕ → Asking → LinesSeen → Total → List ℕ

@@ -133,7 +133,7 @@ fn page_front(
     push_header(alloc, &mut front, question, totals)?;
     push_mend(alloc, &mut front, question, totals, found, lines)?;
     push_keys(alloc, &mut front, lines)?;
-    push_lines_start(&mut front)?;
+    push_lines_start(&mut front, found)?;
     Ok(front)
 }
 

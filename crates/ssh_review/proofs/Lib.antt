@@ -51,5 +51,6 @@ pub mod KeyListingLemmas
 pub mod PageRowLemmas
 pub mod PageListingLemmas
 pub mod PagePlaceLemmas
+pub mod PageKeyLemmas
 pub mod PageWordLemmas
 pub mod PlainWordLemmas

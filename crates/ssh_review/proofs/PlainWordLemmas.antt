@@ -536,7 +536,7 @@ bare-plain place is held found e h =
 
 -- ---- files
 
-digest-plain : (bytes : List ℕ) → are_plain (digest_text_of (sha256 bytes)) ≡ true
+pub digest-plain : (bytes : List ℕ) → are_plain (digest_text_of (sha256 bytes)) ≡ true
 unfolding digest_text_of
 digest-plain bytes = (base64-plain 43 (sha256 bytes) (digest-bytes bytes)).all
 

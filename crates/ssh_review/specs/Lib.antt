@@ -47,4 +47,5 @@ pub mod HostRows
 pub mod PageFiles
 pub mod PageListing
 pub mod PagePlaces
+pub mod PageKeys
 pub mod PageWords

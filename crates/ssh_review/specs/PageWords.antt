@@ -21,7 +21,7 @@ use Rattle.ssh_page.specs.Findings.{names_a_line}
 use Rattle.ssh_page.specs.HostRecords.{role}
 use Rattle.ssh_page.specs.Pieces.{tags}
 use Rattle.ssh_page.specs.Records.{is_free}
-use Rattle.ssh_page.specs.Tags.{Tag, opens, alone, closes, begins, goes_on, ends, reads}
+use Rattle.ssh_page.specs.Tags.{Tag, opens, alone, closes, begins, begins_alone, goes_on, ends, reads}
 use Rattle.ssh_review.specs.Findings.{finding_head, row_detail, row_sentence}
 use Rattle.ssh_review.specs.Records.{carried_inset, fingerprint_word, flag_line, held_words, key_words, limit_lines, setting_line}
 use Rattle.ssh_review.specs.RightsWords.{rights_words}
@@ -50,6 +50,7 @@ spoken_tag (opens name attributes) = opening name
 spoken_tag (alone name attributes) = codes " "
 spoken_tag (closes name) = closing name
 spoken_tag (begins name attributes) = opening name
+spoken_tag (begins_alone name attributes) = codes " "
 spoken_tag (goes_on attributes) = []
 spoken_tag (ends attributes) = []
 spoken_tag (reads words) = words
@@ -65,6 +66,7 @@ valued_after_tag valued (opens name attributes) = false
 valued_after_tag valued (alone name attributes) = false
 valued_after_tag valued (closes name) = false
 valued_after_tag valued (begins name attributes) = true
+valued_after_tag valued (begins_alone name attributes) = true
 valued_after_tag valued (goes_on attributes) = valued
 valued_after_tag valued (ends attributes) = false
 valued_after_tag valued (reads words) = valued

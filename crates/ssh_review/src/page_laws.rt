@@ -19,6 +19,7 @@ ghost use Rattle.ssh_page.specs.Documents.{IsOfBytes, marks};
 ghost use Rattle.ssh_page.specs.Findings.{finding_part};
 ghost use Rattle.ssh_page.specs.FoundRows.{HasPlaces};
 ghost use Rattle.ssh_page.specs.HostRecords.{bare_row, host_entry_row, revoked_row};
+ghost use Rattle.ssh_page.specs.KeyRows.{HasKeyRows};
 ghost use Rattle.ssh_page.specs.Records.{entry_row, unreadable_row};
 ghost use Rattle.ssh_page.specs.declared.file.FileKind.{FileKind};
 ghost use Rattle.ssh_page.specs.declared.record.RowPlace.{RowPlace};
@@ -32,6 +33,7 @@ ghost use Rattle.ssh_review.specs.HostLines.{host_records_of};
 ghost use Rattle.ssh_review.specs.HostRows.{host_rows_of};
 ghost use Rattle.ssh_review.specs.Lines.{records_of};
 ghost use Rattle.ssh_review.specs.PageFiles.{file_rows, file_section};
+ghost use Rattle.ssh_review.specs.PageKeys.{file_key_rows};
 ghost use Rattle.ssh_review.specs.PageListing.{HasHostRow, HasRow};
 ghost use Rattle.ssh_review.specs.PagePlaces.{file_places};
 ghost use Rattle.ssh_review.specs.PageWords.{IsPlain, bare_words, entry_words, host_entry_words, linked_line, revoked_words, unreadable_words, words_on};
@@ -89,6 +91,18 @@ fn row_listed_rule()
         → AllByRecursion (λ c. c < 256) file
         → host_decision file claim vouched ≡ Granted n rights reasons evidence
         → HasHostRow asking number file n }
+{}
+
+/// The lines of a file that have a key are the rows that the list of keys is made of, each once and in
+/// their order, where all texts are bytes.
+fn listed_keys_rule()
+    ensures { (kind : FileKind) (number : ℕ) (asking : Asking) (name file : List ℕ)
+        → number < 2 ^ 64
+        → length file ≤ file_limit
+        → IsOfBytes (file_rows kind number asking file)
+        → IsOfBytes (file_section kind number asking name file)
+        → HasKeyRows (file_section kind number asking name file)
+        (file_key_rows kind number asking file) }
 {}
 
 /// The lines of a file that a page lists under a code are those that have a finding of it, each once

@@ -1,4 +1,4 @@
-use Rattle.ssh_page.proofs.HeadTextLemmas.{header_none, mend_has}
+use Rattle.ssh_page.proofs.HeadTextLemmas.{choices_none, header_none, mend_has}
 use Rattle.ssh_page.proofs.KeyLemmas.{keys_have}
 use Rattle.ssh_page.proofs.TextLemmas.{bare_none, entry_has, host_entry_has, revoked_has, unreadable_none}
 use Rattle.ssh_page.proofs.laws.texts_rule.Goals as goal
@@ -11,6 +11,7 @@ returns c = record {
   revoked = λ place fingerprint names found. (revoked_has place fingerprint names found).by;
   bare = λ place is held found. (bare_none place is held found).by;
   header = λ q t. (header_none q t).by;
+  choices = λ found. (choices_none found).by;
   mend = λ q t found l. (mend_has q t found l).by;
   keys = λ l. (keys_have l).by;
 }
