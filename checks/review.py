@@ -1225,7 +1225,7 @@ class UnreadHost:
 
     bytes: bytes
     cause: str | None
-    blind: bool
+    unreadable_revocation: bool
     held: Key | None
 
 
@@ -1287,8 +1287,8 @@ def host_record(file, number, line, earlier, minimum):
         kind, found = "revoked", found_of_revocation(line, earlier)
         told = {"key": fingerprint(line.blob), "names": escaped(line.names.encode())}
     else:
-        kind, key = ("revocation-unreadable" if line.blind else "unreadable"), line.held
-        found = [("F1", line.cause)] * (line.cause is not None) + [("F10", "")] * line.blind
+        kind, key = ("revocation-unreadable" if line.unreadable_revocation else "unreadable"), line.held
+        found = [("F1", line.cause)] * (line.cause is not None) + [("F10", "")] * line.unreadable_revocation
     told |= {"type": key.kind, "bits": key.bits, "key": key.mark} if key else {}
     findings = [{"code": code, "detail": detail} for code, detail in found]
     return {field: None for field in KNOWN_FIELDS} | {"file": file, "line": number, "what": kind, "findings": findings} | told
@@ -1327,10 +1327,10 @@ HOST_DAMAGES = [  # the cause, whether the line may revoke any key, the line, an
 
 
 def damaged_host(draw, key):
-    cause, blind, form, holds = draw.choice(HOST_DAMAGES)
+    cause, unreadable_revocation, form, holds = draw.choice(HOST_DAMAGES)
     names, other = draw.choice(ITEMS), "ssh-rsa" if key.kind != "ssh-rsa" else "ssh-ed25519"
     line = form.format(names=names, kind=key.kind, text=key.text, cut=key.text[:-5], other=other, long=65_536 * "x")
-    return UnreadHost(line.encode(), cause, blind, key if holds else None)
+    return UnreadHost(line.encode(), cause, unreadable_revocation, key if holds else None)
 
 
 def drawn_names(draw):
@@ -1392,9 +1392,9 @@ def wrong_trust(line, records):
     """What is wrong with the record of the line by which a host is trusted, or that revokes its key."""
     if found := TRUSTS.fullmatch(line):
         here, made = records[found[1]], records[found[1]].get(int(found[2]))
-        blind = [one for one in here.values() if one["what"] == "revocation-unreadable"]
-        good = made is not None and made["what"] in ("key", "authority") and not blind and not any(map(is_doubted, made["findings"]))
-        return None if good else (line, made, blind)
+        unreadable_revocation = [one for one in here.values() if one["what"] == "revocation-unreadable"]
+        good = made is not None and made["what"] in ("key", "authority") and not unreadable_revocation and not any(map(is_doubted, made["findings"]))
+        return None if good else (line, made, unreadable_revocation)
     if (found := MISTRUSTS.fullmatch(line)) and found[2] in ("N1", "N2"):
         made = records[found[1]].get(int(found[3]))
         return None if made and made["what"] == ("revoked" if found[2] == "N1" else "revocation-unreadable") else (line, made)

@@ -83,7 +83,7 @@ FILES = [
 
 NO_HOST_LINE = "f: does not trust: N3: no line admits the offer\n"
 MAY_TRUST = "    ssh may trust it by line {}: {}\n"
-BLIND = (
+UNREADABLE_REVOCATION = (
     "f: does not trust: N2 1: the first line that may revoke any key: it begins with @revoked and has no base64 that can"
     " be read, or it is longer than 65,536 bytes\n"
 )
@@ -113,8 +113,8 @@ HOST_FILES = [
         NO_HOST_LINE + SOUGHT + EMPTY_NAME + f"; it holds {OTHER_MARK}\n",
     ),
     # A line that is too long: an authority for ssh, or a revocation.
-    (f"@cert-authority * {KEY} {LONG}\n", 22, 3, BLIND + MAY_TRUST.format(1, HOLDS)),
-    (f"@revoked * {KEY} {LONG}\n", 22, 1, BLIND),
+    (f"@cert-authority * {KEY} {LONG}\n", 22, 3, UNREADABLE_REVOCATION + MAY_TRUST.format(1, HOLDS)),
+    (f"@revoked * {KEY} {LONG}\n", 22, 1, UNREADABLE_REVOCATION),
     # The name without the port.
     (f"h {KEY}\n", 2222, 3, NO_HOST_LINE + SOUGHT + ELSEWHERE.format(1, "h") + MAY_TRUST.format(1, "ssh tries the name without the port too")),
     (f"[h]:2222 {KEY}\n", 2222, 0, "f: trusts by line 1, if the host's signature is good\n"),

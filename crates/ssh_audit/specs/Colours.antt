@@ -46,15 +46,15 @@ behind_name [] = None
 behind_name (b ∷ rest) = if begins (b ∷ rest) (codes ": ") then Some (drop 2 (b ∷ rest)) else behind_name rest
 
 -- red: the file does not let the key in, or cannot be read; yellow: its line cannot be read
-abbrev pub said_colour : List ℕ → Option Colour
-said_colour said =
-    if begins said (codes "does not admit: ") || begins said (codes "does not trust: ") then Some Red
-    else if begins said (codes "unreadable") then Some Yellow
-    else fault_colour said
+abbrev pub state_colour : List ℕ → Option Colour
+state_colour state =
+    if begins state (codes "does not admit: ") || begins state (codes "does not trust: ") then Some Red
+    else if begins state (codes "unreadable") then Some Yellow
+    else fault_colour state
 
 abbrev pub named_colour : List ℕ → Option (List ℕ) → Option Colour
 named_colour line None = fault_colour line
-named_colour line (Some said) = said_colour said
+named_colour line (Some state) = state_colour state
 
 -- a row of a table: no other line has a tab (9)
 abbrev pub is_row : List ℕ → Bool

@@ -3,7 +3,7 @@
 ghost use Rattle.std.specs.Prelude.{◌≡◌, ◌<◌, ◌++◌, IfOk, IfSome, None, OnOk, length, option_map, position};
 ghost use Rattle.std.specs.Io.{WritesAtMost};
 ghost use Rattle.std.specs.Io.KnownBytes.{Appends, WriteAppends};
-ghost use Rattle.ssh_audit.specs.Colours.{answer_colour, behind_name, begun_by, colour_at, colour_of, ended_by, fault_colour, file_colour, front_at, is_end, is_row, line_at, place_after, printed_by, printed_of, said_colour, taken};
+ghost use Rattle.ssh_audit.specs.Colours.{answer_colour, behind_name, begun_by, colour_at, colour_of, ended_by, fault_colour, file_colour, front_at, is_end, is_row, line_at, place_after, printed_by, printed_of, state_colour, taken};
 ghost use Rattle.ssh_audit.specs.declared.colour.Place.TheVariants.{Between};
 
 use ssh_program::Subcommand;
@@ -72,7 +72,7 @@ fn answer_colour(line: &[u8]) -> Option<Colour>
 
 /// What stands behind the name of a file, or of its line; `None` where there is no name.
 fn behind_name(line: &[u8]) -> Option<&[u8]>
-    ensures { option_map (λ said. said.now) result ≡ behind_name line.now }
+    ensures { option_map (λ state. state.now) result ≡ behind_name line.now }
 {
     let mut rest = line;
     while !rest.is_empty() {
@@ -85,17 +85,17 @@ fn behind_name(line: &[u8]) -> Option<&[u8]>
 }
 
 /// The colour of what is said of a file or its line.
-fn said_colour(said: &[u8]) -> Option<Colour>
-    ensures { result ≡ said_colour said.now }
+fn state_colour(state: &[u8]) -> Option<Colour>
+    ensures { result ≡ state_colour state.now }
 {
-    if said.starts_with(b"does not admit: ".as_slice())
-        || said.starts_with(b"does not trust: ".as_slice())
+    if state.starts_with(b"does not admit: ".as_slice())
+        || state.starts_with(b"does not trust: ".as_slice())
     {
         Some(Colour::Red)
-    } else if said.starts_with(b"unreadable".as_slice()) {
+    } else if state.starts_with(b"unreadable".as_slice()) {
         Some(Colour::Yellow)
     } else {
-        fault_colour(said)
+        fault_colour(state)
     }
 }
 
@@ -121,7 +121,7 @@ fn file_colour(line: &[u8]) -> Option<Colour>
         return None;
     }
     match behind_name(line) {
-        Some(said) => said_colour(said),
+        Some(state) => state_colour(state),
         None => fault_colour(line),
     }
 }

@@ -27,7 +27,7 @@ pub use Rattle.ssh_entries.specs.Hmac.{xor_each}
 pub use Rattle.ssh_entries.specs.KeyPart.{has_no_bytes, KeyPart, key_after_fields, lacks_key, begins_with_type, is_type, key_of_blob, key_of_kind, key_by_class, SpellsKey, key_of_class}
 pub use Rattle.ssh_entries.specs.KnownEntry.{KnownEntry}
 pub use Rattle.ssh_entries.specs.KnownFaults.{HasFields, HasKey, IsKeyFault, field_of, IsTextFault, IsText, IsKnownFault}
-pub use Rattle.ssh_entries.specs.KnownGrammar.{line_of_entry, line_by_first, known_line_of_front, revoked_by, known_entry_of_key, entry_of_names, names_cause, SpellsKnown, line_of_fields, RevokesBytes, Blind, HasNoBytes, fourth_field, revoked_of}
+pub use Rattle.ssh_entries.specs.KnownGrammar.{line_of_entry, line_by_first, known_line_of_front, revoked_by, known_entry_of_key, entry_of_names, names_cause, SpellsKnown, line_of_fields, RevokesBytes, IsUnreadableRevocation, HasNoBytes, fourth_field, revoked_of}
 pub use Rattle.ssh_entries.specs.KnownSamples.{known_samples_read, known_faults_read, revocations_read, long_known_lines_read}
 pub use Rattle.ssh_entries.specs.Markers.{authority_marker, revoked_marker, SpellsMarker}
 pub use Rattle.ssh_entries.specs.Names.{base64, SpellsNames, Names, has_empty_item, IsTwentyBytes, hashed_field, hidden, name_hash, IsNamesFault, Patterns, Hashed, AreNames, begins_with_bar, if_twenty, names_by_hash, names_text}

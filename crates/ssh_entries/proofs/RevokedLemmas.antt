@@ -1,5 +1,5 @@
 -- Lines that revoke, and lines that may.
-use Rattle.ssh_entries.proofs.Imports.{◌≡◌, ◌≢◌, ◌⊎◌, ℕ, ◌<◌, ◌≤◌, nat_lt, Bool, true, false, ◌==◌, if◌then◌else◌, inl, inr, List, [], ◌∷◌, length, Result, Ok, Err, refl, sym, ap, ◌∙◌, ltb-true, ltb-false, lt-ltb, decode_of, IsBytes, standard, DecodeError, decode_of-encode_of, decode_of_strict, LineCause, line_limit, is_blank, body_of, first_word, next_field, KnownEntry, KnownLine, Blank, Comment, Revoked, RevokedUnreadable, FirstField, LineFront, past_limit, empty, remark, fields, front_of, front_of_body, begins_with, base64, has_no_bytes, revoked_marker, RevokesBytes, Blind, HasNoBytes, fourth_field, line_of_entry, line_by_first, known_line_of_front, revoked_by, revoked_of}
+use Rattle.ssh_entries.proofs.Imports.{◌≡◌, ◌≢◌, ◌⊎◌, ℕ, ◌<◌, ◌≤◌, nat_lt, Bool, true, false, ◌==◌, if◌then◌else◌, inl, inr, List, [], ◌∷◌, length, Result, Ok, Err, refl, sym, ap, ◌∙◌, ltb-true, ltb-false, lt-ltb, decode_of, IsBytes, standard, DecodeError, decode_of-encode_of, decode_of_strict, LineCause, line_limit, is_blank, body_of, first_word, next_field, KnownEntry, KnownLine, Blank, Comment, Revoked, RevokedUnreadable, FirstField, LineFront, past_limit, empty, remark, fields, front_of, front_of_body, begins_with, base64, has_no_bytes, revoked_marker, RevokesBytes, IsUnreadableRevocation, HasNoBytes, fourth_field, line_of_entry, line_by_first, known_line_of_front, revoked_by, revoked_of}
 use Rattle.ssh_entries.specs.declared.known_line.KnownLine.TheVariants.{Entry, Unreadable}
 use Rattle.ssh_entries.specs.declared.known_view.FirstField.TheVariants as first
 use Rattle.ssh_entries.specs.declared.known_view.Marker.TheVariants as markers
@@ -140,12 +140,12 @@ no-bytes-by field missing (Err e) m d h =
 no-bytes-by field true (Ok read) m d h = inl (none-is field m)
 no-bytes-by field false (Ok read) m d h = cc
 
-blind-by : (field : List ℕ) (missing : Bool) (decoded : Result (List ℕ) DecodeError) → IsBytes field → has_no_bytes field ≡ missing
+unreadable_revocation-by : (field : List ℕ) (missing : Bool) (decoded : Result (List ℕ) DecodeError) → IsBytes field → has_no_bytes field ≡ missing
     → decode_of standard field ≡ decoded → HasNoBytes field → revoked_by missing decoded ≡ RevokedUnreadable
-blind-by field missing (Err e) are m d none = refl
-blind-by field true (Ok read) are m d none = refl
-blind-by field false (Ok read) are m d (inl e) = absurd (some-differs field m e)
-blind-by field false (Ok read) are m d (inr none) =
+unreadable_revocation-by field missing (Err e) are m d none = refl
+unreadable_revocation-by field true (Ok read) are m d none = refl
+unreadable_revocation-by field false (Ok read) are m d (inl e) = absurd (some-differs field m e)
+unreadable_revocation-by field false (Ok read) are m d (inr none) =
     let spelled = decoded-spelled field read are d in absurd (none read spelled.0 spelled.1)
 
 -- A line that is read as revoking bytes revokes them.
@@ -172,10 +172,10 @@ long-by line false l h = absurd (fields-within (body_of line) h)
         comment-within false c cs h = cc
 
 -- A line that is read as one that may revoke may.
-pub read-blind : (line : List ℕ) → known_line line ≡ RevokedUnreadable → Blind line
-read-blind line h = by (read-front line RevokedUnreadable refl h)
+pub read-unreadable_revocation : (line : List ℕ) → known_line line ≡ RevokedUnreadable → IsUnreadableRevocation line
+read-unreadable_revocation line h = by (read-front line RevokedUnreadable refl h)
   where
-    by : ((front_of line ≡ past_limit) × (RevokedUnreadable ≡ RevokedUnreadable)) ⊎ ReadRevoked line RevokedUnreadable → Blind line
+    by : ((front_of line ≡ past_limit) × (RevokedUnreadable ≡ RevokedUnreadable)) ⊎ ReadRevoked line RevokedUnreadable → IsUnreadableRevocation line
     by (inl (long, e)) = inl (long-by line (nat_lt line_limit (length line)) refl long)
     by (inr r) =
         inr (r.marker, no-bytes-by (fourth_field line) (has_no_bytes (fourth_field line)) (decode_of standard (fourth_field line)) refl refl r.says)
@@ -189,9 +189,9 @@ marked-by : (line : List ℕ) (long : Bool) → nat_lt line_limit (length line) 
 marked-by line true l are marker none = known-long line (ltb-true line_limit (length line) l)
 marked-by line false l are marker none =
     line-revoked line (ltb-false line_limit (length line) l) marker
-    ∙ blind-by (fourth_field line) (has_no_bytes (fourth_field line)) (decode_of standard (fourth_field line)) (fourth-bytes line are) refl refl none
+    ∙ unreadable_revocation-by (fourth_field line) (has_no_bytes (fourth_field line)) (decode_of standard (fourth_field line)) (fourth-bytes line are) refl refl none
 
 -- A line that may revoke is read as one.
-pub blind-read : (line : List ℕ) → AreBytes line → Blind line → known_line line ≡ RevokedUnreadable
-blind-read line are (inl long) = known-long line long
-blind-read line are (inr (marker, none)) = marked-by line (nat_lt line_limit (length line)) refl are marker none
+pub unreadable_revocation-read : (line : List ℕ) → AreBytes line → IsUnreadableRevocation line → known_line line ≡ RevokedUnreadable
+unreadable_revocation-read line are (inl long) = known-long line long
+unreadable_revocation-read line are (inr (marker, none)) = marked-by line (nat_lt line_limit (length line)) refl are marker none

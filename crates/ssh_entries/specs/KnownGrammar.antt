@@ -55,8 +55,8 @@ HasNoBytes field = (field ≡ []) ⊎ ((bytes : List ℕ) → IsBytes bytes → 
 
 -- The line may revoke any key: it is past the limit, or its first field is `@revoked` and its fourth has no bytes (this
 -- project's rule).
-abbrev pub Blind : List ℕ → Type 0
-Blind line = (line_limit < length line) ⊎ ((first_word (body_of line) ≡ revoked_marker) × HasNoBytes (fourth_field line))
+abbrev pub IsUnreadableRevocation : List ℕ → Type 0
+IsUnreadableRevocation line = (line_limit < length line) ⊎ ((first_word (body_of line) ≡ revoked_marker) × HasNoBytes (fourth_field line))
 
 -- ---- reading, with the first fault
 

@@ -78,7 +78,7 @@ fn entry_in(alloc: Global, line: &[u8], body: &[u8]) -> Result<AuthEntry, LineEr
 {
     let fields = EntryFields::read(body)?;
     let mut buffer = vec![in alloc; 0u8; decoded_len_estimate(fields.text.len())]?;
-    let _said = fields.view(&Decoder::new(), buffer.as_mut_slice())?;
+    let _view = fields.view(&Decoder::new(), buffer.as_mut_slice())?;
     let entry = AuthEntry::keep(alloc, line)?;
     Ok(entry)
 }

@@ -2,7 +2,7 @@
 
 ghost use Rattle.std.specs.Prelude.{◌≡◌, IfOk, ◌≤◌, ◌↔◌, ℕ, List, false, IsOk, length};
 ghost use Rattle.ssh_entries.specs.declared.known_line.KnownLine.TheVariants.{Entry};
-ghost use Rattle.ssh_entries.specs.KnownGrammar.{known_line, Blind, RevokesBytes, SpellsKnown, line_of_fields};
+ghost use Rattle.ssh_entries.specs.KnownGrammar.{known_line, IsUnreadableRevocation, RevokesBytes, SpellsKnown, line_of_fields};
 ghost use Rattle.ssh_entries.specs.Kept.{known_entry};
 ghost use Rattle.ssh_entries.specs.KnownEntry.{KnownEntry};
 ghost use Rattle.ssh_entries.specs.declared.known_line.KnownLine.{KnownLine};
@@ -81,11 +81,11 @@ pub enum KnownLine {
 }
 
 /// Copies what was read in place.
-fn keep(alloc: Global, line: &[u8], said: &KnownLineView<'_>) -> Result<KnownLine, AllocError>
-    requires { known_line line.now ≡ known_seen said.now }
-    ensures { IfOk result (λ kept. kept ≡ known_seen said.entry.now) }
+fn keep(alloc: Global, line: &[u8], view: &KnownLineView<'_>) -> Result<KnownLine, AllocError>
+    requires { known_line line.now ≡ known_seen view.now }
+    ensures { IfOk result (λ kept. kept ≡ known_seen view.entry.now) }
 {
-    match said {
+    match view {
         KnownLineView::Blank => Ok(KnownLine::Blank),
         KnownLineView::Comment => Ok(KnownLine::Comment),
         KnownLineView::Entry(_) => Ok(KnownLine::Entry(KnownEntry::keep(alloc, line)?)),
@@ -101,8 +101,8 @@ fn read_fields(alloc: Global, line: &[u8], body: &[u8]) -> Result<KnownLine, All
     ensures { IfOk result (λ read. read ≡ line_of_fields body.now) }
 {
     let mut buffer = vec![in alloc; 0u8; decoded_len_estimate(body.len())]?;
-    let said = view_known_fields(body, &Decoder::new(), buffer.as_mut_slice());
-    let read = keep(alloc, line, &said)?;
+    let view = view_known_fields(body, &Decoder::new(), buffer.as_mut_slice());
+    let read = keep(alloc, line, &view)?;
     Ok(read)
 }
 
@@ -133,7 +133,7 @@ pub fn read_known_line(alloc: Global, line: &[u8]) -> Result<KnownLine, AllocErr
     ensures revoked { IfOk result (λ read. (bytes : List ℕ) →
         (read ≡ KnownLine.Revoked bytes) ↔ RevokesBytes line.now bytes) }
     // A line is reported as one that may revoke any key exactly where it may.
-    ensures blind { IfOk result (λ read. (read ≡ KnownLine.RevokedUnreadable) ↔ Blind line.now) }
+    ensures unreadable_revocation { IfOk result (λ read. (read ≡ KnownLine.RevokedUnreadable) ↔ IsUnreadableRevocation line.now) }
     // A line that is reported as unreadable has that fault, and none that is tested before it.
     ensures fault { IfOk result (λ read. (cause : LineCause) →
         read ≡ KnownLine.Unreadable cause → IsKnownFault cause line.now) }

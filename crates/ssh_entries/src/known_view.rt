@@ -13,7 +13,7 @@ ghost use Rattle.ssh_entries.specs.declared.known_line.KnownLine.{KnownLine};
 ghost use Rattle.ssh_options.specs.declared.option_text.LineCause.{LineCause};
 ghost use Rattle.ssh_entries.specs.KeyLimit.{key_limit};
 ghost use Rattle.ssh_entries.specs.KnownFaults.{IsKnownFault};
-ghost use Rattle.ssh_entries.specs.KnownGrammar.{Blind, RevokesBytes, SpellsKnown, known_line, known_entry_of_fields, line_of_entry, line_of_fields, revoked_of};
+ghost use Rattle.ssh_entries.specs.KnownGrammar.{IsUnreadableRevocation, RevokesBytes, SpellsKnown, known_line, known_entry_of_fields, line_of_entry, line_of_fields, revoked_of};
 ghost use Rattle.ssh_entries.specs.KnownSeen.{known_seen};
 
 use crate::auth_view::{Front, front_of, split_fields};
@@ -301,7 +301,7 @@ pub fn read_known_view<'a>(line: &'a [u8], buffer: &'a mut KeyBuffer) -> KnownLi
     ensures revoked { (bytes : List ℕ) →
         (known_seen result ≡ KnownLine.Revoked bytes) ↔ RevokesBytes line.entry.now bytes }
     // A line is reported as one that may revoke any key exactly where it may.
-    ensures blind { (known_seen result ≡ KnownLine.RevokedUnreadable) ↔ Blind line.entry.now }
+    ensures unreadable_revocation { (known_seen result ≡ KnownLine.RevokedUnreadable) ↔ IsUnreadableRevocation line.entry.now }
     // A line that is reported as unreadable has that fault, and none that is tested before it.
     ensures fault { (cause : LineCause) →
         known_seen result ≡ KnownLine.Unreadable cause → IsKnownFault cause line.entry.now }

@@ -7,7 +7,7 @@ ghost use Rattle.ssh_entries.specs.AuthEntry.{AuthEntry};
 ghost use Rattle.ssh_entries.specs.declared.auth_line.AuthLine.TheVariants.{Entry};
 ghost use Rattle.ssh_entries.specs.AuthGrammar.{SpellsEntry, auth_line};
 ghost use Rattle.ssh_entries.specs.KnownEntry.{KnownEntry};
-ghost use Rattle.ssh_entries.specs.KnownGrammar.{Blind, RevokesBytes, SpellsKnown, known_line};
+ghost use Rattle.ssh_entries.specs.KnownGrammar.{IsUnreadableRevocation, RevokesBytes, SpellsKnown, known_line};
 ghost use Rattle.ssh_entries.specs.Names.{IsTwentyBytes, Names, SpellsNames, hashed_field, hidden, names_of};
 ghost use Rattle.ssh_entries.specs.KnownSamples.{KnownSamplesRead, KnownFaultsRead, LongKnownLinesRead, RevocationsRead};
 ghost use Rattle.ssh_entries.specs.Samples.{EntrySamplesRead, ExamplesRead, EveryOptionRead, OptionFaultsRead, KeyFaultsRead, LongLinesRead};
@@ -43,10 +43,10 @@ fn known_rule()
         RevokesBytes line bytes → known_line line ≡ known.Revoked bytes }
     ensures revoked { (line bytes : List ℕ) → AllByRecursion (λ c. c < 256) line →
         known_line line ≡ known.Revoked bytes → RevokesBytes line bytes }
-    ensures blind { (line : List ℕ) → AllByRecursion (λ c. c < 256) line →
-        Blind line → known_line line ≡ known.RevokedUnreadable }
+    ensures unreadable_revocation { (line : List ℕ) → AllByRecursion (λ c. c < 256) line →
+        IsUnreadableRevocation line → known_line line ≡ known.RevokedUnreadable }
     ensures may_revoke { (line : List ℕ) →
-        known_line line ≡ known.RevokedUnreadable → Blind line }
+        known_line line ≡ known.RevokedUnreadable → IsUnreadableRevocation line }
 {}
 
 /// A field spells at most one list or hashed name, and is read as names exactly if it spells them.

@@ -26,7 +26,7 @@ code_text code.Expired = codes "F6"
 code_text code.PermitsNobody = codes "F7"
 code_text code.ReadOtherwise = codes "F8"
 code_text code.ForcedButForwards = codes "F9"
-code_text code.BlindRevocation = codes "F10"
+code_text code.UnreadableRevocation = codes "F10"
 code_text code.OtherKey = codes "F11"
 code_text code.TrustedAndRevoked = codes "F12"
 code_text code.PatternHosts = codes "F13"
@@ -44,7 +44,7 @@ code_text code.MayRefuse = codes "F22"
 abbrev pub first_codes : List Code
 first_codes =
     code.Unreadable ∷ code.SameKey ∷ code.NeverDecides ∷ code.GivesMore ∷ code.ShortKey ∷ code.Expired ∷ code.PermitsNobody
-    ∷ code.ReadOtherwise ∷ code.ForcedButForwards ∷ code.BlindRevocation ∷ code.OtherKey ∷ code.TrustedAndRevoked
+    ∷ code.ReadOtherwise ∷ code.ForcedButForwards ∷ code.UnreadableRevocation ∷ code.OtherKey ∷ code.TrustedAndRevoked
     ∷ code.PatternHosts ∷ code.EveryHost ∷ []
 
 -- F1 to F14 and F22

@@ -101,7 +101,7 @@ is_past_limit line = nat_lt line_limit (length line)
 abbrev pub unreadable_revocation_findings : Asking → List ℕ → List HostFinding
 unreadable_revocation_findings asking line =
     reported_if host_code_of asking (is_past_limit line) (finding.Unreadable causes.TooLong)
-    ++ reported_if host_code_of asking true finding.BlindRevocation
+    ++ reported_if host_code_of asking true finding.UnreadableRevocation
 
 -- the findings to report for a line that cannot be read: F1
 abbrev pub unreadable_host_findings : Asking → LineCause → List HostFinding

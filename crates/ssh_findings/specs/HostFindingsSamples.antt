@@ -26,8 +26,8 @@ asking reported = record { now = 0; zone = UTC; is_zone_given = false; rsa_minim
 
 -- the facts of an entry: its kind and size, whether it is an authority, and its list of names, or none if they are
 -- hashed
-abbrev said : KeyKind → Option ℕ → Bool → List ℕ → Option (List ℕ) → HostFacts
-said kind bits is_authority names list = record {
+abbrev sample : KeyKind → Option ℕ → Bool → List ℕ → Option (List ℕ) → HostFacts
+sample kind bits is_authority names list = record {
   kind = kind;
   bits = bits;
   fingerprint = [];
@@ -40,17 +40,17 @@ said kind bits is_authority names list = record {
 
 -- a host's key, an authority, and a host's key with hashed names
 abbrev host : KeyKind → List ℕ → HostFacts
-host kind names = said kind None false names (Some (str_to_ascii_lowercase names))
+host kind names = sample kind None false names (Some (str_to_ascii_lowercase names))
 
 abbrev authority : List ℕ → HostFacts
-authority names = said Ed25519 None true names (Some (str_to_ascii_lowercase names))
+authority names = sample Ed25519 None true names (Some (str_to_ascii_lowercase names))
 
 abbrev hashed : HostFacts
-hashed = said Ed25519 None false (codes "|1|") None
+hashed = sample Ed25519 None false (codes "|1|") None
 
 -- a short key, and a marker with a tab after it
 abbrev short : HostFacts
-short = said Rsa (Some 1024) false (codes "old.example.org") (Some (codes "old.example.org"))
+short = sample Rsa (Some 1024) false (codes "old.example.org") (Some (codes "old.example.org"))
 
 abbrev tabbed : HostFacts
 tabbed = record {
@@ -104,13 +104,13 @@ respelled = revoking 8 otherwise (revoked false false (Some three)) ∷ []
 
 -- names with a NUL, a name too long for ssh, and sizes that ssh refuses
 abbrev with_nul : HostFacts
-with_nul = said Ed25519 None false (0 ∷ []) (Some (0 ∷ []))
+with_nul = sample Ed25519 None false (0 ∷ []) (Some (0 ∷ []))
 
 abbrev long_name : ℕ → HostFacts
 long_name n = host Ed25519 (codes "h," ++ replicate n 120)
 
 abbrev rsa_of : ℕ → HostFacts
-rsa_of bits = said Rsa (Some bits) false (codes "h") (Some (codes "h"))
+rsa_of bits = sample Rsa (Some bits) false (codes "h") (Some (codes "h"))
 
 abbrev Found : List Code → List ℕ → HostFacts → List HostFinding → Type 0
 Found reported blob f findings = host_entry_findings (asking reported) earlier blob f ≡ findings
@@ -163,9 +163,9 @@ RevocationsFound =
     × (revocation_findings (asking default_codes) earlier otherwise (revoked false false (Some three)) ≡ finding.TrustedSpelling 6 ∷ [])
     × (revocation_findings (asking default_codes) earlier two (revoked true false (Some one))
     ≡ finding.RevocationTab ∷ finding.TrustedAndRevoked 3 ∷ finding.TrustedSpelling 2 ∷ [])
-    × (unreadable_revocation_findings (asking default_codes) (codes "@revoked") ≡ finding.BlindRevocation ∷ [])
-    × (unreadable_revocation_findings (asking default_codes) (replicate 65536 32) ≡ finding.BlindRevocation ∷ [])
-    × (unreadable_revocation_findings (asking default_codes) (replicate 65537 32) ≡ finding.Unreadable causes.TooLong ∷ finding.BlindRevocation ∷ [])
+    × (unreadable_revocation_findings (asking default_codes) (codes "@revoked") ≡ finding.UnreadableRevocation ∷ [])
+    × (unreadable_revocation_findings (asking default_codes) (replicate 65536 32) ≡ finding.UnreadableRevocation ∷ [])
+    × (unreadable_revocation_findings (asking default_codes) (replicate 65537 32) ≡ finding.Unreadable causes.TooLong ∷ finding.UnreadableRevocation ∷ [])
     × (unreadable_revocation_findings (asking []) (replicate 65537 32) ≡ [])
     × (unreadable_host_findings (asking default_codes) causes.Names ≡ finding.Unreadable causes.Names ∷ [])
 

@@ -32,7 +32,7 @@ pub enum Code {
     /// F9: the line forces a command but still permits forwarding.
     ForcedButForwards,
     /// F10: the line cannot be read and may revoke any key.
-    BlindRevocation,
+    UnreadableRevocation,
     /// F11: another line has a different key of the same type for one of the names.
     OtherKey,
     /// F12: a key that is both trusted and revoked.
@@ -72,7 +72,7 @@ impl Code {
         Code::PermitsNobody,
         Code::ReadOtherwise,
         Code::ForcedButForwards,
-        Code::BlindRevocation,
+        Code::UnreadableRevocation,
         Code::OtherKey,
         Code::TrustedAndRevoked,
         Code::PatternHosts,
@@ -97,7 +97,7 @@ impl Code {
         Code::PermitsNobody,
         Code::ReadOtherwise,
         Code::ForcedButForwards,
-        Code::BlindRevocation,
+        Code::UnreadableRevocation,
         Code::OtherKey,
         Code::TrustedAndRevoked,
         Code::PatternHosts,
@@ -127,7 +127,7 @@ impl Code {
             Code::PermitsNobody => "F7",
             Code::ReadOtherwise => "F8",
             Code::ForcedButForwards => "F9",
-            Code::BlindRevocation => "F10",
+            Code::UnreadableRevocation => "F10",
             Code::OtherKey => "F11",
             Code::TrustedAndRevoked => "F12",
             Code::PatternHosts => "F13",

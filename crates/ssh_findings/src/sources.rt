@@ -90,14 +90,14 @@ impl Pieces {
         ensures stars { result.has_stars ≡ has_stars list.now }
         ensures bang { result.has_bang ≡ has_bang list.now }
     {
-        let mut said = Pieces::NONE;
+        let mut pieces = Pieces::NONE;
         let mut rest = Some(list);
         while let Some(pieces) = rest {
             let (piece, left) = first_piece(pieces);
-            said = said.with(piece);
+            pieces = pieces.with(piece);
             rest = left;
         }
-        said
+        pieces
     }
 }
 

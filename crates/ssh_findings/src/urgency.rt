@@ -32,7 +32,7 @@ pub fn how_soon(code: Code) -> Urgency
         Code::PermitsNobody => Urgency::Soon,
         Code::ReadOtherwise => Urgency::Today,
         Code::ForcedButForwards => Urgency::Soon,
-        Code::BlindRevocation => Urgency::Today,
+        Code::UnreadableRevocation => Urgency::Today,
         Code::OtherKey => Urgency::Today,
         Code::TrustedAndRevoked => Urgency::Today,
         Code::PatternHosts => Urgency::Soon,

@@ -51,8 +51,8 @@ key_stays : (opened : Open) (names : List (List ℕ)) (files : ℕ) (rows : List
 key_stays opened names files [] = record { by = refl }
 key_stays opened names files (r ∷ rows) =
     let p = codes "p" ∷ codes "article" ∷ opened in
-    let told = next (next (head_leads opened r) (counts_stay p files (length (r ∷ rows)))) (here (within p) (put piece.Places)) in
-    next (next (next (next told (link_stays p names r.place)) (note_stays p r)) (rows_stay p names rows)) (here (within p) (put piece.KeyEnd))
+    let counted = next (next (head_leads opened r) (counts_stay p files (length (r ∷ rows)))) (here (within p) (put piece.Places)) in
+    next (next (next (next counted (link_stays p names r.place)) (note_stays p r)) (rows_stay p names rows)) (here (within p) (put piece.KeyEnd))
 
 column-by : (b : Bool) (opened : Open) (file : ℕ) → after (valued opened) (put piece.Column & count file & put (cond b piece.LowColumnEnd piece.ColumnEnd)) ≡ valued opened
 column-by true opened file = refl
@@ -138,8 +138,8 @@ key_has : (names : List (List ℕ)) (files : ℕ) (rows : List KeyRowSeen) → H
 key_has names files [] = record { by = refl }
 key_has names files (r ∷ rows) =
     let links : HasTexts (each (row_link names) rows) (map (file_name names) rows) = record { by = rows-have names rows } in
-    let told = upto (upto (head_has r) (counts_none files (length (r ∷ rows)))) (piece_none piece.Places) in
-    let all = upto (has (upto (has told (link_has names r.place)) (note_none r)) links) (piece_none piece.KeyEnd) in
+    let counted = upto (upto (head_has r) (counts_none files (length (r ∷ rows)))) (piece_none piece.Places) in
+    let all = upto (has (upto (has counted (link_has names r.place)) (note_none r)) links) (piece_none piece.KeyEnd) in
     record { by = all.by ∙ append_assoc (if_bytes r.name) (file_name names r ∷ []) (map (file_name names) rows) }
 
 each-have : (names : List (List ℕ)) (groups : List KeyGroupSeen) → texts_of (each (key_part names) groups) ≡ flat_map (λ (g : KeyGroupSeen). key_texts names g.rows) groups
@@ -201,8 +201,8 @@ keys_have l = list_has l.names (length (by_key (rows_in l.sections))) (groups_in
 key_shape : (names other : List (List ℕ)) (files : ℕ) (rows : List KeyRowSeen) → SameShape (key_by names files rows) (key_by other files rows)
 key_shape names other files [] = record { by = refl }
 key_shape names other files (r ∷ rows) =
-    let told = like (key_head r & key_counts files (length (r ∷ rows)) & put piece.Places) in
-    let first = join (join told (link_shape names other r.place)) (like (limited_note r)) in
+    let counted = like (key_head r & key_counts files (length (r ∷ rows)) & put piece.Places) in
+    let first = join (join counted (link_shape names other r.place)) (like (limited_note r)) in
     join (join first (each_shape (row_link names) (row_link other) (λ (s : KeyRowSeen). join (next_shape names other s.place) (like (limited_note s))) rows)) (like (put piece.KeyEnd))
 
 row-shape : (b : Bool) (all other files : ℕ) (rows : List KeyRowSeen) → pieces_of (cond b (strip all files rows) nothing) ≡ pieces_of (cond b (strip other files rows) nothing)

@@ -56,7 +56,7 @@ tiles t =
 
 -- a term, and what it is
 unfoldable pub term : List ℕ → List ℕ → Document
-term word said = put piece.Term & say word & put piece.TermSays & say said & put piece.TermEnd
+term word text = put piece.Term & say word & put piece.TermSays & say text & put piece.TermEnd
 
 abbrev pub kind_words : FileKind → List ℕ
 kind_words AuthorizedKeys = codes "authorized_keys: who is let in"

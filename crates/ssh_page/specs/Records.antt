@@ -90,7 +90,7 @@ carried_part c =
 
 -- a word and what the program says of it
 unfoldable pub words_part : List ℕ → List ℕ → Document
-words_part word said = put piece.Limit & say word & say said & put piece.LimitEnd
+words_part word text = put piece.Limit & say word & say text & put piece.LimitEnd
 
 -- the moment at which the entry expires, and its date
 abbrev pub until_part : Option ℤ → Document

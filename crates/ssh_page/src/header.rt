@@ -143,13 +143,13 @@ pub fn push_tiles(out: &mut Vec<u8>, totals: &PageTotals) -> Result<(), AllocErr
 
 /// Appends a term of the question, and what it was.
 #[tactic(auto, unfolding(crate::specs::Headers::term))]
-fn push_term(out: &mut Vec<u8>, word: &[u8], said: &[u8]) -> Result<(), AllocError>
-    ensures { OnOk result (out.new.items ≡ out.old.items ++ marks (term word.now said.now)) }
+fn push_term(out: &mut Vec<u8>, word: &[u8], text: &[u8]) -> Result<(), AllocError>
+    ensures { OnOk result (out.new.items ≡ out.old.items ++ marks (term word.now text.now)) }
 {
     push_piece(out, Piece::Term)?;
     push_shown(out, word)?;
     push_piece(out, Piece::TermSays)?;
-    push_shown(out, said)?;
+    push_shown(out, text)?;
     push_piece(out, Piece::TermEnd)?;
     Ok(())
 }

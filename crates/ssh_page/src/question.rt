@@ -35,7 +35,7 @@ fn only_kind(code: Code) -> Option<FileKind>
         Code::PermitsNobody => Some(FileKind::AuthorizedKeys),
         Code::ReadOtherwise => None,
         Code::ForcedButForwards => Some(FileKind::AuthorizedKeys),
-        Code::BlindRevocation => Some(FileKind::KnownHosts),
+        Code::UnreadableRevocation => Some(FileKind::KnownHosts),
         Code::OtherKey => Some(FileKind::KnownHosts),
         Code::TrustedAndRevoked => Some(FileKind::KnownHosts),
         Code::PatternHosts => Some(FileKind::KnownHosts),

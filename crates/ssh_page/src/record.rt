@@ -210,12 +210,12 @@ fn push_each_carried(out: &mut Vec<u8>, carried: &[Carried]) -> Result<(), Alloc
 
 /// Appends a word and what the program says of it, as a limit.
 #[tactic(auto, unfolding(crate::specs::Records::words_part))]
-fn push_words(out: &mut Vec<u8>, word: &[u8], said: &[u8]) -> Result<(), AllocError>
-    ensures { OnOk result (out.new.items ≡ out.old.items ++ marks (words_part word.now said.now)) }
+fn push_words(out: &mut Vec<u8>, word: &[u8], text: &[u8]) -> Result<(), AllocError>
+    ensures { OnOk result (out.new.items ≡ out.old.items ++ marks (words_part word.now text.now)) }
 {
     push_piece(out, Piece::Limit)?;
     push_shown(out, word)?;
-    push_shown(out, said)?;
+    push_shown(out, text)?;
     push_piece(out, Piece::LimitEnd)?;
     Ok(())
 }

@@ -216,11 +216,11 @@ by-verdict claim n text texts vs (Skips (Some w)) plain is rest =
     ∙ (take-line claim n text (numbered (n + 1) texts) w (reasons-before (n + 1) vs)
     ∙ ap (λ (r : Verdicts). possible_by claim (numbered n (text ∷ texts)) (reasons_from n r)) (sym (one-more (Some w) vs))))
 
-told-lines : (claim : LoginClaim) (n : ℕ) (texts : List (List ℕ)) → seeks_security_key claim ≡ false
+lines-by_reasons : (claim : LoginClaim) (n : ℕ) (texts : List (List ℕ)) → seeks_security_key claim ≡ false
     → at-first claim n (map (line_verdict claim) texts) texts ≡ by-reasons claim n (map (line_verdict claim) texts) texts
-told-lines claim n [] plain = refl
-told-lines claim n (text ∷ texts) plain =
-    by-verdict claim n text texts (map (line_verdict claim) texts) (line_verdict claim text) plain refl (told-lines claim (n + 1) texts plain)
+lines-by_reasons claim n [] plain = refl
+lines-by_reasons claim n (text ∷ texts) plain =
+    by-verdict claim n text texts (map (line_verdict claim) texts) (line_verdict claim text) plain refl (lines-by_reasons claim (n + 1) texts plain)
 
 -- ---- the reasons that are listed
 
@@ -243,28 +243,28 @@ not-true : (b : Bool) → not b ≡ true → b ≡ false
 not-true true h = cc
 not-true false h = refl
 
-told-by : (claim : LoginClaim) (before : Option ℕ) (file : List ℕ) (b : Bool) → reasons_suffice claim (reasons_of (verdicts claim file)) ≡ b
+by-reasons : (claim : LoginClaim) (before : Option ℕ) (file : List ℕ) (b : Bool) → reasons_suffice claim (reasons_of (verdicts claim file)) ≡ b
     → before ≡ first-number 1 (verdicts claim file)
     → cond b (lines_other (is_some before) (possible_by claim (numbered 1 (lines_of file)) (reasons_of (verdicts claim file)))) (possible_other claim before file) ≡ possible_other claim before file
 unfolding possible_other
-told-by claim before file false is first = refl
-told-by claim before file true is first =
+by-reasons claim before file false is first = refl
+by-reasons claim before file true is first =
     let reasons = reasons_of (verdicts claim file) in
     let lines = numbered 1 (lines_of file) in
     let parts = and_parts (are_all_listed reasons) (not (seeks_security_key claim)) is in
     let few : length reasons < 100 = ltb-true (length reasons) 100 parts.0 in
     let all : reasons ≡ reasons-before 1 (verdicts claim file) = few-taken 100 (reasons-before 1 (verdicts claim file)) few in
-    let told : possible_by claim lines reasons ≡ possible_lines claim before lines =
+    let reasoned : possible_by claim lines reasons ≡ possible_lines claim before lines =
     ap (possible_by claim lines) all
-    ∙ (sym (told-lines claim 1 (lines_of file) (not-true (seeks_security_key claim) parts.1))
+    ∙ (sym (lines-by_reasons claim 1 (lines_of file) (not-true (seeks_security_key claim) parts.1))
     ∙ ap (λ (b : Option ℕ). possible_lines claim b lines) (sym first)) in
     let short : length (possible_by claim lines reasons) ≤ 101 = omega (arith, few, by-at-most claim lines reasons) in
-    ap (lines_other (is_some before)) (sym (all_is 101 (possible_by claim lines reasons) short) ∙ ap (take 101) told)
+    ap (lines_other (is_some before)) (sym (all_is 101 (possible_by claim lines reasons) short) ∙ ap (take 101) reasoned)
 
-told-beside : (claim : LoginClaim) (before : Option ℕ) (file : List ℕ) → before ≡ first-number 1 (verdicts claim file)
+beside-by_reasons : (claim : LoginClaim) (before : Option ℕ) (file : List ℕ) → before ≡ first-number 1 (verdicts claim file)
     → possible_beside claim before file (reasons_of (verdicts claim file)) ≡ possible_other claim before file
 unfolding possible_beside
-told-beside claim before file first = told-by claim before file (reasons_suffice claim (reasons_of (verdicts claim file))) refl first
+beside-by_reasons claim before file first = by-reasons claim before file (reasons_suffice claim (reasons_of (verdicts claim file))) refl first
 
 -- ---- the first line that admits
 
@@ -307,9 +307,9 @@ first-at claim n i e [] h = cc
 first-at claim n i e (text ∷ texts) h =
     first-by claim n i e text texts (map (line_verdict claim) texts) (line_verdict claim text) refl h (λ next. first-at claim (n + 1) i e texts next)
 
-told-refused : (claim : LoginClaim) (file : List ℕ) (i : ℕ) (e : AuthEntry) → candidate_of (verdicts claim file) ≡ Some (i, e) → refused_at claim i file ≡ refused_other claim file
+refused-by_reasons : (claim : LoginClaim) (file : List ℕ) (i : ℕ) (e : AuthEntry) → candidate_of (verdicts claim file) ≡ Some (i, e) → refused_at claim i file ≡ refused_other claim file
 unfolding refused_other admitting_at
-told-refused claim file i e h =
+refused-by_reasons claim file i e h =
     ap (λ (first : Option (ℕ × Admitting)). refused_by first (first_line claim true (numbered 1 (lines_of file)))) (first-at claim 1 i e (lines_of file) h)
 
 -- ---- the decision
@@ -317,43 +317,43 @@ told-refused claim file i e h =
 abbrev by-cause : LoginClaim → List ℕ → ℕ → AuthEntry → Option Cause → Decision
 by-cause claim file i e cause = decision_by (login_evidence claim) (candidate_at claim (i, e)) cause (reasons_of (verdicts claim file))
 
-told-at : (claim : LoginClaim) (file : List ℕ) (i : ℕ) (e : AuthEntry) (touched verified : Bool) (unvouched : Option ℕ) → candidate_of (verdicts claim file) ≡ Some (i, e)
+at-by_reasons : (claim : LoginClaim) (file : List ℕ) (i : ℕ) (e : AuthEntry) (touched verified : Bool) (unvouched : Option ℕ) → candidate_of (verdicts claim file) ≡ Some (i, e)
     → login_beside claim file (by-cause claim file i e (cause_by touched verified unvouched)) ≡ login_other claim file (by-cause claim file i e (cause_by touched verified unvouched))
 unfolding login_other
-told-at claim file i e false verified unvouched h = refl
-told-at claim file i e true false unvouched h = refl
-told-at claim file i e true true (Some index) h = refl
-told-at claim file i e true true None h =
+at-by_reasons claim file i e false verified unvouched h = refl
+at-by_reasons claim file i e true false unvouched h = refl
+at-by_reasons claim file i e true true (Some index) h = refl
+at-by_reasons claim file i e true true None h =
     let number : Some i ≡ first-number 1 (verdicts claim file) = ap (option_map (λ (c : ℕ × AuthEntry). c.0)) (sym h) in
-    ap (λ (x : OtherLines). other_both x (refused_at claim i file)) (told-beside claim (Some i) file number)
-    ∙ ap (other_both (possible_other claim (Some i) file)) (told-refused claim file i e h)
+    ap (λ (x : OtherLines). other_both x (refused_at claim i file)) (beside-by_reasons claim (Some i) file number)
+    ∙ ap (other_both (possible_other claim (Some i) file)) (refused-by_reasons claim file i e h)
 
-told-of : (claim : LoginClaim) (file : List ℕ) (vouched : List Signed) (c : Option (ℕ × AuthEntry)) → candidate_of (verdicts claim file) ≡ c
+decision-by_reasons : (claim : LoginClaim) (file : List ℕ) (vouched : List Signed) (c : Option (ℕ × AuthEntry)) → candidate_of (verdicts claim file) ≡ c
     → login_beside claim file (decision_of (login_evidence claim) vouched (option_map (candidate_at claim) c) (reasons_of (verdicts claim file)))
     ≡ login_other claim file (decision_of (login_evidence claim) vouched (option_map (candidate_at claim) c) (reasons_of (verdicts claim file)))
 unfolding login_other
-told-of claim file vouched None h =
+decision-by_reasons claim file vouched None h =
     let none : None ≡ first-number 1 (verdicts claim file) = ap (option_map (λ (c : ℕ × AuthEntry). c.0)) (sym h) in
-    ap (λ (x : OtherLines). other_both x (other_cause claim file NoLine)) (told-beside claim None file none)
-told-of claim file vouched (Some (i, e)) h =
+    ap (λ (x : OtherLines). other_both x (other_cause claim file NoLine)) (beside-by_reasons claim None file none)
+decision-by_reasons claim file vouched (Some (i, e)) h =
     let at = candidate_at claim (i, e) in
-    told-at claim file i e at.touched at.verified (first_unvouched vouched (login_evidence claim)) h
+    at-by_reasons claim file i e at.touched at.verified (first_unvouched vouched (login_evidence claim)) h
 
-told : (claim : LoginClaim) (file : List ℕ) (vouched : List Signed) → login_beside claim file (login_decision file claim vouched) ≡ login_other claim file (login_decision file claim vouched)
+all-by_reasons : (claim : LoginClaim) (file : List ℕ) (vouched : List Signed) → login_beside claim file (login_decision file claim vouched) ≡ login_other claim file (login_decision file claim vouched)
 unfolding login_decision
-told claim file vouched = told-of claim file vouched (candidate_of (verdicts claim file)) refl
+all-by_reasons claim file vouched = decision-by_reasons claim file vouched (candidate_of (verdicts claim file)) refl
 
 given-by : (b : Bool) (x d : Decision) → ◌≡◌ {A = Result Decision AuditError} (cond b (Err FileTooLong) (Ok x)) (Ok d) → x ≡ d
 given-by true x d h = cc
 given-by false x d h = cc
 
 -- what is told by the decision of the answer is what is printed beside it
-pub told_beside : (claim : LoginClaim) (file : List ℕ) (vouched : List Signed) (d : Decision) (other : OtherLines) → login_answer file claim vouched ≡ Ok d
+pub beside_by_reasons : (claim : LoginClaim) (file : List ℕ) (vouched : List Signed) (d : Decision) (other : OtherLines) → login_answer file claim vouched ≡ Ok d
     → other ≡ beside_login claim file d → other ≡ other_login claim file d
-told_beside claim file vouched d other answer is =
+beside_by_reasons claim file vouched d other answer is =
     let decided : login_decision file claim vouched ≡ d = given-by (nat_lt file_limit (length file)) (login_decision file claim vouched) d answer in
     let same : login_beside claim file d ≡ login_other claim file d =
-    subst (λ (x : Decision). login_beside claim file x ≡ login_other claim file x) decided (told claim file vouched) in
+    subst (λ (x : Decision). login_beside claim file x ≡ login_other claim file x) decided (all-by_reasons claim file vouched) in
     is ∙ ap (other_both (reported_other (login_details claim file d))) same
 
 -- ---- the walk along the reasons

@@ -34,16 +34,16 @@ why_known_entry blob e = option_or (why_nul_names blob e) (why_read_as e.key blo
 
 -- A line that cannot be read here, even one that is too long for the rules here: ssh reads it (hostfile.c,
 -- hostkeys_foreach_file).
-abbrev pub known_why_said : List ℕ → List ℕ → KnownLine → Option WhyPossible
-known_why_said blob line (Unreadable cause) = why_held (known_held_blob line) blob
-known_why_said blob line RevokedUnreadable = if is_revoking line then None else why_held (known_held_blob line) blob
-known_why_said blob line Blank = None
-known_why_said blob line Comment = None
-known_why_said blob line (Entry e) = why_known_entry blob e
-known_why_said blob line (Revoked bytes) = None
+abbrev pub why_known_state : List ℕ → List ℕ → KnownLine → Option WhyPossible
+why_known_state blob line (Unreadable cause) = why_held (known_held_blob line) blob
+why_known_state blob line RevokedUnreadable = if is_revoking line then None else why_held (known_held_blob line) blob
+why_known_state blob line Blank = None
+why_known_state blob line Comment = None
+why_known_state blob line (Entry e) = why_known_entry blob e
+why_known_state blob line (Revoked bytes) = None
 
 unfoldable pub known_why : List ℕ → List ℕ → Option WhyPossible
-known_why blob line = known_why_said blob line (known_line line)
+known_why blob line = why_known_state blob line (known_line line)
 
 -- those of these lines by which ssh may trust the key with this blob
 abbrev pub known_possible_lines : List ℕ → List (ℕ × List ℕ) → List (ℕ × WhyPossible)

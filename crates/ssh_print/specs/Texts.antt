@@ -38,7 +38,7 @@ escaped_text text = flat_map escaped_byte text
 
 -- a word, with a space after it, and a value
 unfoldable pub word_line : List ℕ → List ℕ → List ℕ
-word_line word said = word ++ said ++ codes "\n"
+word_line word text = word ++ text ++ codes "\n"
 
 -- the same for bytes of any kind
 abbrev pub text_line : List ℕ → List ℕ → List ℕ

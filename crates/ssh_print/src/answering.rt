@@ -212,7 +212,7 @@ fn beside_login(
 /// login and which do not admit it here. For a denial all lines of the file count, for a grant only
 /// those before its line. If OpenSSH may refuse the line that admits, it also has the line that
 /// decides in that case.
-#[tactic(auto, using(crate::proofs::ReasonLemmas::told_beside))]
+#[tactic(auto, using(crate::proofs::ReasonLemmas::beside_by_reasons))]
 pub fn answer_login(
     alloc: Global,
     claim: &LoginClaimView<'_>,

@@ -30,8 +30,8 @@ fault-given A given Salts spared h = h
 pub bytes_reported : (who : AnswerForm) (by : Deciding) (beside : Otherness) (evidence : List Signed) (name file : List ℕ) (answer : Result (Decision × Otherwise) AuditError) (reported : ReportedLines)
     → is_memory answer ≡ false → GivesBeside (beside file) (answer_by by file evidence) answer → reported ≡ reported_with who name answer
     → reported ≡ reported_by who by beside evidence name file
-bytes_reported who by beside evidence name file (Ok (d, other)) reported spared (given, told) is =
-    is ∙ (ap (λ (x : OtherLines). reported_of who name x (Ok d)) told
+bytes_reported who by beside evidence name file (Ok (d, other)) reported spared (given, beside_is) is =
+    is ∙ (ap (λ (x : OtherLines). reported_of who name x (Ok d)) beside_is
     ∙ ap (λ (a : Result Decision AuditError). reported_of who name (beside_answer beside file a) a) (sym given))
 bytes_reported who by beside evidence name file (Err e) reported spared given is =
     is ∙ ap (λ (a : Result Decision AuditError). reported_of who name (beside_answer beside file a) a) (sym (fault-given (Decision × Otherwise) (answer_by by file evidence) e spared given))

@@ -23,7 +23,7 @@ use Rattle.ssh_review.proofs.DistinctLemmas.{keys-behind}
 use Rattle.ssh_review.specs.declared.end.Total.{Total}
 use Rattle.ssh_program.specs.Totals.{with_counted}
 use Rattle.ssh_program.specs.declared.review.FileNoted.{FileNoted}
-use Rattle.ssh_program.specs.FileReviews.{FileTold, Lines, TextPut, TextWritten, UnreadPut, fault_told, file_kept, file_kind, keys_within, review_kept, told_of, told_over, with_file, with_noted}
+use Rattle.ssh_program.specs.FileReviews.{FileReport, Lines, TextPut, TextWritten, UnreadPut, fault_report, file_kept, file_kind, keys_within, review_kept, report_of, report_if_read, with_file, with_noted}
 use Rattle.ssh_program.proofs.PutLemmas.{nothing-reported, put-kept, put-noted, text-reported}
 use Rattle.ssh_program.proofs.WrittenText.{nothing_taken}
 
@@ -57,11 +57,11 @@ known-put show form asking name file old new r few h =
 -- the keys of a file within the limit are noted
 pub put-with_keys : (kind : ReviewKind) (show : Show) (form : Form) (asking : Asking) (name file : List ℕ) (earlier keys : KeySet) (old new : Option Account) (r : Result FileReported Stop) (noted : Result FileNoted Stop)
     → length file ≤ file_limit → OnOk r (keys ≡ with_keys earlier (file_keys (file_kind kind) file)) → TextPut (review_of kind show form asking name file).text (review_kept (review_of kind show form asking name file)) old new r
-    → noted ≡ with_noted r keys → TextPut (told_of kind show form asking name file).text (file_kept earlier (told_of kind show form asking name file)) old new noted
+    → noted ≡ with_noted r keys → TextPut (report_of kind show form asking name file).text (file_kept earlier (report_of kind show form asking name file)) old new noted
 put-with_keys kind show form asking name file earlier keys old new r noted few seen put made =
     let x = review_of kind show form asking name file in
     let own : file_keys (file_kind kind) file ≡ keys_within (file_kind kind) file = ap (λ (b : Bool). if b then [] else file_keys (file_kind kind) file) (sym (within-false (length file) few)) in
-    subst (λ (n : Result FileNoted Stop). TextPut x.text (file_kept earlier (told_of kind show form asking name file)) old new n) (sym made)
+    subst (λ (n : Result FileNoted Stop). TextPut x.text (file_kept earlier (report_of kind show form asking name file)) old new n) (sym made)
     (put-kept x.text (review_kept x) keys (with_keys earlier (keys_within (file_kind kind) file)) old new r
     (subst (λ (l : List (List ℕ)). OnOk r (keys ≡ with_keys earlier l)) own seen) put)
 
@@ -69,7 +69,7 @@ put-with_keys kind show form asking name file earlier keys old new r noted few s
 
 file-reported : (kind : ReviewKind) (show : Show) (form : Form) (asking : Asking) (name : NameSeen) (head file bytes : List ℕ) (o t : Option SourceState) → head ≡ file_head form name → bytes ≡ file
     → IfTells o (λ s. (within_limit (bytes_at s name.path) ≡ Some file) × IsLeft s (after_whole s name.path) t) → IfTells o (λ s. KeepsOthers name.path s t)
-    → IfTells o (λ s. TellsFile (telling_review kind show form asking) name s t (told_of kind show form asking head bytes))
+    → IfTells o (λ s. TellsFile (telling_review kind show form asking) name s t (report_of kind show form asking head bytes))
 file-reported kind show form asking name head file bytes None t front is loads keeps = tt
 file-reported kind show form asking name head file bytes (Some s) t front is loads keeps = λ counts.
     let load = loads counts in (
@@ -77,17 +77,17 @@ file-reported kind show form asking name head file bytes (Some s) t front is loa
       inr (
         left-none s (after_whole s name.path) t load.1,
         left-end name.path s t load.1,
-        ap (λ (h : List ℕ). told_of kind show form asking h bytes) front ∙ (ap (told_of kind show form asking (file_head form name)) is
-            ∙ ap (told_over kind show form asking (file_head form name)) (sym (given-all (given_at s name.path) file load.0))),
+        ap (λ (h : List ℕ). report_of kind show form asking h bytes) front ∙ (ap (report_of kind show form asking (file_head form name)) is
+            ∙ ap (report_if_read kind show form asking (file_head form name)) (sym (given-all (given_at s name.path) file load.0))),
       ),
     )
 
 pub file_reviewed : (kind : ReviewKind) (show : Show) (form : Form) (asking : Asking) (name : NameSeen) (head file bytes : List ℕ) (keys : KeySet) (o t : Option SourceState) (old new : Option Account) (r : Result FileNoted Stop) → head ≡ file_head form name → bytes ≡ file
     → IfTells o (λ s. (within_limit (bytes_at s name.path) ≡ Some file) × IsLeft s (after_whole s name.path) t) → IfTells o (λ s. KeepsOthers name.path s t)
-    → TextPut (told_of kind show form asking head bytes).text (file_kept keys (told_of kind show form asking head bytes)) old new r
+    → TextPut (report_of kind show form asking head bytes).text (file_kept keys (report_of kind show form asking head bytes)) old new r
     → TextWritten (telling_review kind show form asking) (λ x. x.text) (file_kept keys) name o t old new r
 file_reviewed kind show form asking name head file bytes keys o t old new r front is loads keeps put =
-    text-reported (telling_review kind show form asking) (λ x. x.text) (file_kept keys) name o t old new r (told_of kind show form asking head bytes) (file-reported kind show form asking name head file bytes o t front is loads keeps) put
+    text-reported (telling_review kind show form asking) (λ x. x.text) (file_kept keys) name o t old new r (report_of kind show form asking head bytes) (file-reported kind show form asking name head file bytes o t front is loads keeps) put
 
 -- ---- one that gives no bytes
 
@@ -101,7 +101,7 @@ pub kept-and-cause : (name : List ℕ) (cause : UnreadCause) (t o : Option Sourc
 kept-and-cause name cause t None keeps why = tt
 kept-and-cause name cause t (Some s) keeps why = λ counts. (keeps counts, why counts)
 
-too-long : (kind : ReviewKind) (show : Show) (form : Form) (asking : Asking) (name : List ℕ) (given : Result (List ℕ) UnreadCause) → IsTooLong (bytes_of given) → told_over kind show form asking name given ≡ fault_told form name TooLong
+too-long : (kind : ReviewKind) (show : Show) (form : Form) (asking : Asking) (name : List ℕ) (given : Result (List ℕ) UnreadCause) → IsTooLong (bytes_of given) → report_if_read kind show form asking name given ≡ fault_report form name TooLong
 too-long kind show form asking name (Err cause) h = absurd h
 too-long Auth show form asking name (Ok bytes) h = rw (lt-ltb file_limit (length bytes) h) refl
 too-long Known show form asking name (Ok bytes) h = rw (lt-ltb file_limit (length bytes) h) refl
@@ -113,31 +113,31 @@ file_unread kind show form asking name head o t read.Memory cause keys old new r
     subst (λ (x : Result FileReported Stop). TextWritten (telling_review kind show form asking) (λ x. x.text) (file_kept keys) name o t old new (with_noted x keys)) (sym is)
     (nothing-reported (telling_review kind show form asking) (λ x. x.text) (file_kept keys) name o t old new (same ∙ nothing_taken old))
 file_unread kind show form asking name head o t read.TooLong cause keys old new r front fails keeps why put =
-    text-reported (telling_review kind show form asking) (λ x. x.text) (file_kept keys) name o t old new (with_noted r keys) (fault_told form head TooLong)
+    text-reported (telling_review kind show form asking) (λ x. x.text) (file_kept keys) name o t old new (with_noted r keys) (fault_report form head TooLong)
     (both_in _ _ _ o (λ s f k. (
       k,
       inr (
         f.1,
         no-end name.path s t k (over_limit (bytes_at s name.path) f.0),
-        ap (λ (h : List ℕ). fault_told form h TooLong) front ∙ sym (too-long kind show form asking (file_head form name) (given_at s name.path) f.0),
+        ap (λ (h : List ℕ). fault_report form h TooLong) front ∙ sym (too-long kind show form asking (file_head form name) (given_at s name.path) f.0),
       ),
     )) fails keeps) (put-noted (fault_review form head TooLong).text (review_kept (fault_review form head TooLong)) keys old new r put)
 file_unread kind show form asking name head o t read.Missing cause keys old new r front fails keeps why put =
-    text-reported (telling_review kind show form asking) (λ x. x.text) (file_kept keys) name o t old new (with_noted r keys) (fault_told form head (Unread cause))
+    text-reported (telling_review kind show form asking) (λ x. x.text) (file_kept keys) name o t old new (with_noted r keys) (fault_report form head (Unread cause))
     (both_in _ _ _ o (λ s f k. (
       k.0,
       inr (
         f.1,
         no-end name.path s t k.0 (ap within_limit f.0),
-        ap (λ (h : List ℕ). fault_told form h (Unread cause)) front ∙ (ap (λ (c : UnreadCause). fault_told form (file_head form name) (Unread c)) k.1
-            ∙ ap (told_over kind show form asking (file_head form name)) (sym (given-none (given_at s name.path) f.0))),
+        ap (λ (h : List ℕ). fault_report form h (Unread cause)) front ∙ (ap (λ (c : UnreadCause). fault_report form (file_head form name) (Unread c)) k.1
+            ∙ ap (report_if_read kind show form asking (file_head form name)) (sym (given-none (given_at s name.path) f.0))),
       ),
     )) fails (kept-and-cause name.path cause t o keeps why)) (put-noted (fault_review form head (Unread cause)).text (review_kept (fault_review form head (Unread cause))) keys old new r put)
 file_unread kind show form asking name head o t read.Failed cause keys old new r front fails keeps why put =
-    text-reported (telling_review kind show form asking) (λ x. x.text) (file_kept keys) name o t old new (with_noted r keys) (fault_told form head (Unread cause))
+    text-reported (telling_review kind show form asking) (λ x. x.text) (file_kept keys) name o t old new (with_noted r keys) (fault_report form head (Unread cause))
     (both_in _ _ _ o (λ s f k. (
       k.0,
-      inl (f, ap (λ (h : List ℕ). fault_told form h (Unread cause)) front ∙ ap (λ (c : UnreadCause). fault_told form (file_head form name) (Unread c)) k.1),
+      inl (f, ap (λ (h : List ℕ). fault_report form h (Unread cause)) front ∙ ap (λ (c : UnreadCause). fault_report form (file_head form name) (Unread c)) k.1),
     )) fails (kept-and-cause name.path cause t o keeps why)) (put-noted (fault_review form head (Unread cause)).text (review_kept (fault_review form head (Unread cause))) keys old new r put)
 
 -- nothing of it is written where memory for its head could not be allocated
@@ -155,7 +155,7 @@ pub record SofarKept : Type 0 where
 abbrev pub sofar_kept : Lines → SofarKept
 sofar_kept l = record { total = l.total; keys = keys_seen l.keys }
 
-pub noted-more : (sofar : Lines) (f : FileTold) (k : SofarKept) (after : Total) (noted : FileNoted) (count : Option ℕ) → k ≡ sofar_kept sofar → noted ≡ file_kept k.keys f
+pub noted-more : (sofar : Lines) (f : FileReport) (k : SofarKept) (after : Total) (noted : FileNoted) (count : Option ℕ) → k ≡ sofar_kept sofar → noted ≡ file_kept k.keys f
     → count ≡ key_count noted.keys → after ≡ with_counted k.total count noted.reported.counts noted.reported.fault
     → record { total = after; keys = noted.keys } ≡ sofar_kept (with_file sofar f)
 noted-more sofar f k after noted count is same counted made =

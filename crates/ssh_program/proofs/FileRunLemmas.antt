@@ -20,7 +20,7 @@ use Rattle.ssh_rewriting.specs.declared.rewrite.RewriteError.TheVariants as rewr
 use Rattle.ssh_trust.specs.Answer.{host_answer, login_answer}
 use Rattle.ssh_files.specs.FilesInTurn.{Telling}
 use Rattle.ssh_files.specs.Salts.{salts_of}
-use Rattle.ssh_review.proofs.GrantLemmas.{hashed-adds_none, hashed-blind, hashed-keeps, hashed-premises, hashed-revoked}
+use Rattle.ssh_review.proofs.GrantLemmas.{hashed-adds_none, hashed-unreadable_revocation, hashed-keeps, hashed-premises, hashed-revoked}
 use Rattle.ssh_review.proofs.HostListingLemmas.{trusted}
 use Rattle.ssh_review.proofs.ListingLemmas.{listed}
 use Rattle.ssh_review.proofs.ReadableDecisionLemmas.{readable-answers, readable-grants}
@@ -50,7 +50,7 @@ use Rattle.ssh_program.specs.declared.rewriting.NewFile.{NewFile}
 use Rattle.ssh_program.specs.declared.rewriting.NewFile.TheVariants.{CanonicalAuth, CanonicalKnown, ReadableAuth}
 use Rattle.ssh_program.specs.declared.subcommand.Subcommand.{Subcommand}
 use Rattle.ssh_program.specs.declared.subcommand.Subcommand.TheVariants as command
-use Rattle.ssh_program.specs.FileReviews.{FileTold, Lines, ReviewsFiles, kind_name, lines_before, review_of, telling_review, told_of, with_file}
+use Rattle.ssh_program.specs.FileReviews.{FileReport, Lines, ReviewsFiles, kind_name, lines_before, review_of, telling_review, report_of, with_file}
 use Rattle.ssh_program.specs.FileRuns.{AnswersHosts, AnswersKept, AnswersLogins, AsksLines, AsksNoKey, AsksWith, FileHashed, FileReadable, FileRewritten, FilesReviewed, GrantsKept, IsPartOf, KeepsGrants, PrintsReview, PrintsReviews, ShowsAll}
 use Rattle.ssh_program.specs.Hashings.{Hashes, hashed_over}
 use Rattle.ssh_program.specs.KeyRuns.{AsksOfFiles}
@@ -209,7 +209,7 @@ keeps-grants file text new salts bytes twenty made is =
       keeps = λ claim vouched. hashed-keeps file new salts claim vouched says enough;
       adds_none = λ claim vouched. hashed-adds_none file new salts claim vouched says;
       revoked = λ claim vouched. hashed-revoked file new salts claim vouched says;
-      unreadable = λ claim vouched. hashed-blind file new salts claim vouched says;
+      unreadable = λ claim vouched. hashed-unreadable_revocation file new salts claim vouched says;
     })
 
 -- the salts of the file of this name
@@ -320,27 +320,27 @@ prints Known asked name text file all h part = (
 )
 
 -- the file is there, and its review is this
-record ReviewedAs (asked : ReviewAsked) (name : NameSeen) (s : SourceState) (first : FileTold) : Type 0 where
+record ReviewedAs (asked : ReviewAsked) (name : NameSeen) (s : SourceState) (first : FileReport) : Type 0 where
   file : List ℕ
   there : bytes_at s name.path ≡ Some file
-  is : first ≡ told_of asked.kind asked.show asked.form asked.asking (file_head asked.form name) file
+  is : first ≡ report_of asked.kind asked.show asked.form asked.asking (file_head asked.form name) file
 
-abbrev telling : ReviewAsked → Telling NameSeen FileTold
+abbrev telling : ReviewAsked → Telling NameSeen FileReport
 telling asked = telling_review asked.kind asked.show asked.form asked.asking
 
 some-fault : (fault : FileFault) → ◌≡◌ {A = Option FileFault} (Some fault) None → ⊥
 some-fault fault h = cc
 
-reviewed-by : (asked : ReviewAsked) (name : NameSeen) (s : SourceState) (first : FileTold) (given : Result (List ℕ) UnreadCause) → given_at s name.path ≡ given
+reviewed-by : (asked : ReviewAsked) (name : NameSeen) (s : SourceState) (first : FileReport) (given : Result (List ℕ) UnreadCause) → given_at s name.path ≡ given
     → first ≡ (telling asked).of_bytes name given → first.fault ≡ None → ReviewedAs asked name s first
-reviewed-by asked name s first (Err cause) there is whole = absurd (some-fault (Unread cause) (sym (ap (λ (x : FileTold). x.fault) is) ∙ whole))
+reviewed-by asked name s first (Err cause) there is whole = absurd (some-fault (Unread cause) (sym (ap (λ (x : FileReport). x.fault) is) ∙ whole))
 reviewed-by asked name s first (Ok file) there is whole = record { file = file; there = ap bytes_of there; is = is }
 
-reviewed-as : (asked : ReviewAsked) (name : NameSeen) (s m : SourceState) (first : FileTold) → TellsFile (telling asked) name s (Some m) first → first.fault ≡ None → ReviewedAs asked name s first
-reviewed-as asked name s m first (keeps, inl (failed, is)) whole = absurd (some-fault (Unread (cause_at s name.path)) (sym (ap (λ (x : FileTold). x.fault) is) ∙ whole))
+reviewed-as : (asked : ReviewAsked) (name : NameSeen) (s m : SourceState) (first : FileReport) → TellsFile (telling asked) name s (Some m) first → first.fault ≡ None → ReviewedAs asked name s first
+reviewed-as asked name s m first (keeps, inl (failed, is)) whole = absurd (some-fault (Unread (cause_at s name.path)) (sym (ap (λ (x : FileReport). x.fault) is) ∙ whole))
 reviewed-as asked name s m first (keeps, inr (unfailed, end, is)) whole = reviewed-by asked name s first (given_at s name.path) refl is whole
 
-few-failures : (asked : ReviewAsked) (name : NameSeen) (s m : SourceState) (first : FileTold) → TellsFile (telling asked) name s (Some m) first → m.failures ≤ s.failures + 1
+few-failures : (asked : ReviewAsked) (name : NameSeen) (s m : SourceState) (first : FileReport) → TellsFile (telling asked) name s (Some m) first → m.failures ≤ s.failures + 1
 few-failures asked name s m first (keeps, inl (failed, is)) = let one : m.failures ≡ s.failures + 1 = failed.0 in omega (arith, one)
 few-failures asked name s m first (keeps, inr (unfailed, end, is)) = let same : m.failures ≡ s.failures = unfailed in omega (arith, same)
 
@@ -355,7 +355,7 @@ record Printed (sofar reported : Lines) (rest : List ℕ) : Type 0 where
 abbrev EachReviewed : ReviewAsked → List NameSeen → SourceState → List ℕ → Type 0
 EachReviewed asked [] s rest = rest ≡ []
 EachReviewed asked (name ∷ names) s rest =
-    (first : FileTold) × ReviewedAs asked name s first × (first.fault ≡ None)
+    (first : FileReport) × ReviewedAs asked name s first × (first.fault ≡ None)
     × ((m : SourceState) × (more : List ℕ) × KeepsOthers name.path s (Some m) × (rest ≡ first.text ++ more) × EachReviewed asked names m more)
 
 each-reviewed : (asked : ReviewAsked) (sofar : Lines) (names : List NameSeen) (s : SourceState) (t : Option SourceState) (reported : Lines)
@@ -381,8 +381,8 @@ prints-each asked text before after [] s rest all h is = tt
 prints-each asked text before after (name ∷ names) s rest all (first, reviewed, whole, (m, more, keeps, are, each)) is =
     let parts : text ≡ before ++ (first.text ++ (more ++ after)) = is ∙ ap (λ (x : List ℕ). before ++ (x ++ after)) are ∙ ap (λ (x : List ℕ). before ++ x) (append_assoc first.text more after) in
     let later : text ≡ (before ++ first.text) ++ (more ++ after) = parts ∙ sym (append_assoc before first.text (more ++ after)) in
-    let fault = sym (ap (λ (x : FileTold). x.fault) reviewed.is) ∙ whole in
-    let part = subst (λ (x : FileTold). IsPartOf x.text text) reviewed.is (before, more ++ after, parts) in
+    let fault = sym (ap (λ (x : FileReport). x.fault) reviewed.is) ∙ whole in
+    let part = subst (λ (x : FileReport). IsPartOf x.text text) reviewed.is (before, more ++ after, parts) in
     ((reviewed.file, reviewed.there, prints asked.kind asked (file_head asked.form name) text reviewed.file all fault part), (m, keeps, prints-each asked text (before ++ first.text) after names m more all each later))
 
 -- ---- what the options spell

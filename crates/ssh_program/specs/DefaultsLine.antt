@@ -20,17 +20,17 @@ date_if false word = []
 date_if true word = date_behind (number_below (2 ^ 64) word)
 
 -- a word that was added, which cannot forge a line; behind the value of `--now` its date
-abbrev pub said_word : Bool → Text → Text
-said_word is_time word = codes " " ++ escaped_text word ++ date_if is_time word
+abbrev pub added_word_part : Bool → Text → Text
+added_word_part is_time word = codes " " ++ escaped_text word ++ date_if is_time word
 
 -- these words; `is_time` says whether the first is the value of `--now`
-abbrev pub said_words : Bool → List Text → Text
-said_words is_time [] = []
-said_words is_time (word ∷ words) = said_word is_time word ++ said_words (bytes_eq word (codes "--now")) words
+abbrev pub added_words_part : Bool → List Text → Text
+added_words_part is_time [] = []
+added_words_part is_time (word ∷ words) = added_word_part is_time word ++ added_words_part (bytes_eq word (codes "--now")) words
 
 -- the line of the words that were added; none where there are none
-unfoldable pub said_line : List Text → Text
-said_line added = if length added == 0 then [] else codes "ssh_audit: asked with" ++ said_words false added ++ codes "\n"
+unfoldable pub added_line : List Text → Text
+added_line added = if length added == 0 then [] else codes "ssh_audit: asked with" ++ added_words_part false added ++ codes "\n"
 
 -- what is added to the words after the name of a command
 abbrev pub added : Subcommand → Surroundings → List Word → List Text
@@ -38,7 +38,7 @@ added c s words = added_options c s words ++ added_files c s words
 
 abbrev pub line_of : Option Subcommand → Surroundings → List Text → Text
 line_of None s words = []
-line_of (Some c) s words = if takes_defaults c then said_line (added c s (in_turn words)) else []
+line_of (Some c) s words = if takes_defaults c then added_line (added c s (in_turn words)) else []
 
 -- the line of the words of the program
 abbrev pub defaults_line : Surroundings → List Text → Text

@@ -33,15 +33,15 @@ use Rattle.ssh_program.specs.Account.{Account, NoneFailed}
 use Rattle.ssh_program.specs.Printing.{Breaks, TakesAll, behind}
 use Rattle.ssh_program.specs.Totals.{nothing, total_status, with_counted}
 
--- what a file tells: its review, and the keys on its key lines
-pub record FileTold : Type 0 where
+-- the report on a file: its review, and the keys on its key lines
+pub record FileReport : Type 0 where
   pub text : List ℕ
   pub counts : Counts
   pub fault : Option FileFault
   pub keys : List (List ℕ)
 
-abbrev pub told : Review → List (List ℕ) → FileTold
-told r keys = record { text = r.text; counts = r.counts; fault = r.fault; keys = keys }
+abbrev pub report : Review → List (List ℕ) → FileReport
+report r keys = record { text = r.text; counts = r.counts; fault = r.fault; keys = keys }
 
 -- the output lines of some files, their total, and the keys on their key lines
 pub record Lines : Type 0 where
@@ -54,7 +54,7 @@ abbrev pub lines_before : Form → Lines
 lines_before form = record { total = nothing; keys = []; text = first_lines form }
 
 -- The lines so far, followed by the review of one more file. A key that stands in two files counts once.
-abbrev pub with_file : Lines → FileTold → Lines
+abbrev pub with_file : Lines → FileReport → Lines
 with_file sofar f = record {
   total = with_counted sofar.total (distinct_keys (sofar.keys ++ f.keys)) f.counts f.fault;
   keys = sofar.keys ++ f.keys;
@@ -81,24 +81,24 @@ abbrev pub keys_within : FileKind → List ℕ → List (List ℕ)
 keys_within kind file = if nat_lt file_limit (length file) then [] else file_keys kind file
 
 -- the review of a file of these bytes, and its keys
-abbrev pub told_of : ReviewKind → Show → Form → Asking → List ℕ → List ℕ → FileTold
-told_of kind show form asking name file = told (review_of kind show form asking name file) (keys_within (file_kind kind) file)
+abbrev pub report_of : ReviewKind → Show → Form → Asking → List ℕ → List ℕ → FileReport
+report_of kind show form asking name file = report (review_of kind show form asking name file) (keys_within (file_kind kind) file)
 
 -- a file with a fault has no key line
-abbrev pub fault_told : Form → List ℕ → FileFault → FileTold
-fault_told form name fault = told (fault_review form name fault) []
+abbrev pub fault_report : Form → List ℕ → FileFault → FileReport
+fault_report form name fault = report (fault_review form name fault) []
 
 -- the same of what is given of a file, each record of which begins with this head; one that is missing has the fault A9, and why
-abbrev pub told_over : ReviewKind → Show → Form → Asking → List ℕ → Result (List ℕ) UnreadCause → FileTold
-told_over kind show form asking name (Err cause) = fault_told form name (Unread cause)
-told_over kind show form asking name (Ok file) = told_of kind show form asking name file
+abbrev pub report_if_read : ReviewKind → Show → Form → Asking → List ℕ → Result (List ℕ) UnreadCause → FileReport
+report_if_read kind show form asking name (Err cause) = fault_report form name (Unread cause)
+report_if_read kind show form asking name (Ok file) = report_of kind show form asking name file
 
 -- a file of which a read fails has the fault A9 too
-abbrev pub telling_review : ReviewKind → Show → Form → Asking → Telling NameSeen FileTold
+abbrev pub telling_review : ReviewKind → Show → Form → Asking → Telling NameSeen FileReport
 telling_review kind show form asking = record {
   path = λ name. name.path;
-  of_bytes = λ name given. told_over kind show form asking (file_head form name) given;
-  of_fault = λ name cause. fault_told form (file_head form name) (Unread cause);
+  of_bytes = λ name given. report_if_read kind show form asking (file_head form name) given;
+  of_fault = λ name cause. fault_report form (file_head form name) (Unread cause);
 }
 
 -- ---- files whose texts are written one after the other
@@ -176,7 +176,7 @@ abbrev pub review_kept : Review → FileReported
 review_kept r = record { counts = r.counts; stands = false; fault = r.fault }
 
 -- the same, and the keys of all files up to this one
-abbrev pub file_kept : KeySet → FileTold → FileNoted
+abbrev pub file_kept : KeySet → FileReport → FileNoted
 file_kept keys f = record { reported = record { counts = f.counts; stands = false; fault = f.fault }; keys = with_keys keys f.keys }
 
 abbrev pub with_noted : Result FileReported Stop → KeySet → Result FileNoted Stop

@@ -18,7 +18,7 @@ use Rattle.ssh_files.specs.Loading.{KeepsOthers, within_limit}
 use Rattle.ssh_files.specs.Parts.{after_whole}
 use Rattle.ssh_files.specs.Salts.{salts_of}
 use Rattle.ssh_files.specs.Values.{ReadsZone}
-use Rattle.ssh_review.specs.Grants.{FindsShared, Grants, IsBlind, IsRevoked}
+use Rattle.ssh_review.specs.Grants.{FindsShared, Grants, IsRevocationUnreadable, IsRevoked}
 use Rattle.ssh_review.specs.HostListing.{IsHostListed}
 use Rattle.ssh_review.specs.HostReviews.{host_whole_review}
 use Rattle.ssh_review.specs.Listing.{IsListed}
@@ -91,7 +91,7 @@ pub record KeepsGrants (file : List ℕ) (salts : List (List ℕ)) (new : List �
   pub keeps : (claim : HostClaim) (vouched : List Signed) → Grants file claim vouched → Grants new claim vouched
   pub adds_none : (claim : HostClaim) (vouched : List Signed) → Grants new claim vouched → Grants file claim vouched ⊎ FindsShared file salts new claim
   pub revoked : (claim : HostClaim) (vouched : List Signed) → IsRevoked (host_decision file claim vouched) ↔ IsRevoked (host_decision new claim vouched)
-  pub unreadable : (claim : HostClaim) (vouched : List Signed) → IsBlind (host_decision file claim vouched) ↔ IsBlind (host_decision new claim vouched)
+  pub unreadable : (claim : HostClaim) (vouched : List Signed) → IsRevocationUnreadable (host_decision file claim vouched) ↔ IsRevocationUnreadable (host_decision new claim vouched)
 
 -- status 0: the salts and the file are there, and the text that was printed is such a file
 pub record FileHashed (rows : List Row) (s : SourceState) (r : Response) : Type 0 where

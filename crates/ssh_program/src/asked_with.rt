@@ -1,7 +1,7 @@
 //! The line of standard error that says what was added to a question: `ssh_audit: asked with ..`.
 
 ghost use Rattle.std.specs.Prelude.{◌≡◌, ◌++◌, IfOk, OnOk, false, map, string_bytes};
-ghost use Rattle.ssh_program.specs.DefaultsLine.{added, date_behind, date_if, defaults_line, line_of, said_line, said_word, said_words};
+ghost use Rattle.ssh_program.specs.DefaultsLine.{added, date_behind, date_if, defaults_line, line_of, added_line, added_word_part, added_words_part};
 ghost use Rattle.ssh_program.specs.DefaultsView.{around_seen};
 ghost use Rattle.ssh_program.specs.WordPlacesView.{word_seen};
 
@@ -59,13 +59,13 @@ fn push_date_if(
 }
 
 /// Appends a word that was added; behind the value of `--now` stands its date.
-fn push_said_word(
+fn push_added_word(
     alloc: Global,
     out: &mut Vec<u8>,
     is_time: bool,
     word: &str,
 ) -> Result<(), AllocError>
-    ensures { OnOk result (out.new.items ≡ out.old.items ++ said_word is_time word.now) }
+    ensures { OnOk result (out.new.items ≡ out.old.items ++ added_word_part is_time word.now) }
 {
     out.push(b' ')?;
     push_escaped(out, word.as_bytes())?;
@@ -74,29 +74,29 @@ fn push_said_word(
 }
 
 /// Appends the words that were added.
-fn push_said_words(alloc: Global, out: &mut Vec<u8>, added: &[String]) -> Result<(), AllocError>
+fn push_added_words(alloc: Global, out: &mut Vec<u8>, added: &[String]) -> Result<(), AllocError>
     ensures { OnOk result (out.new.items
-        ≡ out.old.items ++ said_words false (map string_bytes added.now)) }
+        ≡ out.old.items ++ added_words_part false (map string_bytes added.now)) }
 {
     let mut is_time = false;
     for word in added {
-        push_said_word(alloc, out, is_time, word.as_str())?;
+        push_added_word(alloc, out, is_time, word.as_str())?;
         is_time = word.as_str() == "--now";
     }
     Ok(())
 }
 
 /// The line of the words that were added.
-#[tactic(auto, unfolding(crate::specs::DefaultsLine::said_line))]
-fn said_line(alloc: Global, added: &[String]) -> Result<Vec<u8>, AllocError>
-    ensures { IfOk result (λ line. line.items ≡ said_line (map string_bytes added.now)) }
+#[tactic(auto, unfolding(crate::specs::DefaultsLine::added_line))]
+fn added_line(alloc: Global, added: &[String]) -> Result<Vec<u8>, AllocError>
+    ensures { IfOk result (λ line. line.items ≡ added_line (map string_bytes added.now)) }
 {
     let mut line = Vec::new(alloc);
     if added.is_empty() {
         return Ok(line);
     }
     line.extend_from_slice(b"ssh_audit: asked with")?;
-    push_said_words(alloc, &mut line, added)?;
+    push_added_words(alloc, &mut line, added)?;
     line.push(b'\n')?;
     Ok(line)
 }
@@ -115,7 +115,7 @@ fn line_of(
         Some(command) if takes_defaults(command) => {
             let turn = in_turn(alloc, words)?;
             let added = added_words(alloc, command, around, turn.as_slice())?;
-            said_line(alloc, added.as_slice())
+            added_line(alloc, added.as_slice())
         }
         _ => Ok(Vec::new(alloc)),
     }

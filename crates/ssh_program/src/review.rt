@@ -14,7 +14,7 @@ ghost use Rattle.ssh_findings.specs.Asking.{asking_of};
 ghost use Rattle.ssh_files.specs.SourceState.{IfTells};
 ghost use Rattle.ssh_program.specs.Account.{NoneFailed};
 ghost use Rattle.ssh_review.specs.DistinctKeys.{file_keys, with_keys};
-ghost use Rattle.ssh_program.specs.FileReviews.{FailedIfStopped, ReviewsFiles, TextPut, TextWritten, TextsWritten, file_kept, file_kind, kind_name, lines_before, review_kept, review_of, telling_review, told_of, with_file, with_noted};
+ghost use Rattle.ssh_program.specs.FileReviews.{FailedIfStopped, ReviewsFiles, TextPut, TextWritten, TextsWritten, file_kept, file_kind, kind_name, lines_before, review_kept, review_of, telling_review, report_of, with_file, with_noted};
 ghost use Rattle.ssh_program.specs.Namings.{names_seen};
 ghost use Rattle.ssh_review.specs.FileNames.{file_head, name_seen};
 ghost use Rattle.ssh_program.specs.Printing.{WritesAnswer};
@@ -248,8 +248,8 @@ fn put_noted<W: Sink>(
     requires none { NoneFailed (W.account writer.old) }
     requires limit { length file.now ≤ file_limit }
     ensures failed { FailedIfStopped result (W.account writer.new) }
-    ensures put { TextPut (told_of kind show form (asking_of asked.entry.now) head.now file.now).text
-        (file_kept earlier (told_of kind show form (asking_of asked.entry.now) head.now file.now))
+    ensures put { TextPut (report_of kind show form (asking_of asked.entry.now) head.now file.now).text
+        (file_kept earlier (report_of kind show form (asking_of asked.entry.now) head.now file.now))
         (W.account writer.old) (W.account writer.new) result }
 {
     let mut keys = earlier;

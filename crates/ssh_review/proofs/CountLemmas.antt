@@ -58,8 +58,8 @@ unfolding revocation_findings
 revocation-short asking earlier bytes f =
     both _ _ 2 2 (passing-short asking f) (trusting-short asking (trusting_line earlier bytes) (spelled_line earlier f))
 
-blind-short : (asking : Asking) (line : List ℕ) → length (unreadable_revocation_findings asking line) ≤ 2
-blind-short asking line = both _ _ 1 1 (if-short asking _ _) (if-short asking true finding.BlindRevocation)
+unreadable_revocation-short : (asking : Asking) (line : List ℕ) → length (unreadable_revocation_findings asking line) ≤ 2
+unreadable_revocation-short asking line = both _ _ 1 1 (if-short asking _ _) (if-short asking true finding.UnreadableRevocation)
 
 -- ---- lines
 
@@ -73,7 +73,7 @@ line-within asking earlier line (Revoked bytes) =
     let few = revocation-short asking earlier bytes (revocation_facts_of line bytes) in
     found-within host_code_of (host_line_findings asking earlier line (Revoked bytes)) 0 0 (omega arith) (omega arith) (omega (arith, few))
 line-within asking earlier line RevokedUnreadable =
-    let few = blind-short asking line in
+    let few = unreadable_revocation-short asking line in
     found-within host_code_of (host_line_findings asking earlier line RevokedUnreadable) 0 1 (omega arith) (omega arith) (omega (arith, few))
 line-within asking earlier line (Unreadable cause) =
     let few = if-short asking true (finding.Unreadable cause) in

@@ -28,7 +28,7 @@ sentence-printable code.Expired = record { all = refl }
 sentence-printable code.PermitsNobody = record { all = refl }
 sentence-printable code.ReadOtherwise = record { all = refl }
 sentence-printable code.ForcedButForwards = record { all = refl }
-sentence-printable code.BlindRevocation = record { all = refl }
+sentence-printable code.UnreadableRevocation = record { all = refl }
 sentence-printable code.OtherKey = record { all = refl }
 sentence-printable code.TrustedAndRevoked = record { all = refl }
 sentence-printable code.PatternHosts = record { all = refl }

@@ -1,5 +1,5 @@
 -- A host's key is granted, revoked or unmatched by what some line is read as, whichever line it is.
-use Rattle.ssh_review.proofs.Imports.{◌≡◌, ◌∙◌, ◌⊎◌, ◌↔◌, ◌≤◌, ℕ, ◌+◌, Bool, true, false, ◌||◌, cond, ltb, List, [], ◌∷◌, ◌++◌, length, map, Option, Some, None, Result, Ok, Err, refl, sym, ap, subst, inl, inr, Contains, is_some, option_map, AllByRecursion, flat_map, list_any, ltb-false, file_limit, lines_of, IsTwentyBytes, KnownEntry, KnownLine, known_line, known_facts, HashError, TooFewSalts, hashed, hashed_facts, hashed_file, hidden_names, names_hidden, hashed-says, Signed, host_evidence, HostClaim, first_unvouched, Reason, LineVerdict, Admits, Skips, may_revoke, revokes_offer, host_verdict, Granted, host_answer, admits, candidate_of, first_admitted, reasons_of, host_decision_by, revocation_cause, first_number, host_line_verdict, is_blind, admitting_number, revokes_by, FindsShared, Grants, IsBlind, IsRevoked}
+use Rattle.ssh_review.proofs.Imports.{◌≡◌, ◌∙◌, ◌⊎◌, ◌↔◌, ◌≤◌, ℕ, ◌+◌, Bool, true, false, ◌||◌, cond, ltb, List, [], ◌∷◌, ◌++◌, length, map, Option, Some, None, Result, Ok, Err, refl, sym, ap, subst, inl, inr, Contains, is_some, option_map, AllByRecursion, flat_map, list_any, ltb-false, file_limit, lines_of, IsTwentyBytes, KnownEntry, KnownLine, known_line, known_facts, HashError, TooFewSalts, hashed, hashed_facts, hashed_file, hidden_names, names_hidden, hashed-says, Signed, host_evidence, HostClaim, first_unvouched, Reason, LineVerdict, Admits, Skips, may_revoke, revokes_offer, host_verdict, Granted, host_answer, admits, candidate_of, first_admitted, reasons_of, host_decision_by, revocation_cause, first_number, host_line_verdict, is_unreadable_revocation, admitting_number, revokes_by, FindsShared, Grants, IsRevocationUnreadable, IsRevoked}
 use Rattle.ssh_rewriting.specs.declared.hash.HashError.TheVariants.{TooLong}
 use Rattle.ssh_trust.proofs.CandidateLemmas.{AreBytes}
 use Rattle.ssh_entries.specs.declared.known_line.KnownLine.TheVariants as known
@@ -40,9 +40,9 @@ some-mapped f (Some x) = refl
 -- ---- what is decided
 
 -- no line revokes or may, some line admits, and all is vouched for
-record Clear (revokes blind admitted unvouched : Bool) : Type 0 where
+record Clear (revokes unreadable_revocation admitted unvouched : Bool) : Type 0 where
   unrevoked : revokes ≡ false
-  no_unreadable_revocation : blind ≡ false
+  no_unreadable_revocation : unreadable_revocation ≡ false
   some : admitted ≡ true
   vouched : unvouched ≡ false
 
@@ -75,27 +75,27 @@ revoked-is : (r b c u : Option ℕ) (reasons : List (ℕ × Reason)) (evidence :
 revoked-is (Some n) b c u reasons evidence h = (n, reasons, evidence, refl)
 revoked-is None b c u reasons evidence h = cc
 
-is-blind : (r b c u : Option ℕ) (reasons : List (ℕ × Reason)) (evidence : List Signed)
-    → IsBlind (host_decision_by (revocation_cause r b) c u reasons evidence) → (is_some r ≡ false) × (is_some b ≡ true)
-is-blind (Some n) b c u reasons evidence (line, why, signed, h) = cc
-is-blind None (Some n) c u reasons evidence h = (refl, refl)
-is-blind None None None u reasons evidence (line, why, signed, h) = cc
-is-blind None None (Some at) (Some index) reasons evidence (line, why, signed, h) = cc
-is-blind None None (Some at) None reasons evidence (line, why, signed, h) = cc
+is-revocation_unreadable : (r b c u : Option ℕ) (reasons : List (ℕ × Reason)) (evidence : List Signed)
+    → IsRevocationUnreadable (host_decision_by (revocation_cause r b) c u reasons evidence) → (is_some r ≡ false) × (is_some b ≡ true)
+is-revocation_unreadable (Some n) b c u reasons evidence (line, why, signed, h) = cc
+is-revocation_unreadable None (Some n) c u reasons evidence h = (refl, refl)
+is-revocation_unreadable None None None u reasons evidence (line, why, signed, h) = cc
+is-revocation_unreadable None None (Some at) (Some index) reasons evidence (line, why, signed, h) = cc
+is-revocation_unreadable None None (Some at) None reasons evidence (line, why, signed, h) = cc
 
-blind-is : (r b c u : Option ℕ) (reasons : List (ℕ × Reason)) (evidence : List Signed)
-    → is_some r ≡ false → is_some b ≡ true → IsBlind (host_decision_by (revocation_cause r b) c u reasons evidence)
-blind-is (Some n) b c u reasons evidence h k = cc
-blind-is None (Some n) c u reasons evidence h k = (n, reasons, evidence, refl)
-blind-is None None c u reasons evidence h k = cc
+revocation_unreadable-is : (r b c u : Option ℕ) (reasons : List (ℕ × Reason)) (evidence : List Signed)
+    → is_some r ≡ false → is_some b ≡ true → IsRevocationUnreadable (host_decision_by (revocation_cause r b) c u reasons evidence)
+revocation_unreadable-is (Some n) b c u reasons evidence h k = cc
+revocation_unreadable-is None (Some n) c u reasons evidence h k = (n, reasons, evidence, refl)
+revocation_unreadable-is None None c u reasons evidence h k = cc
 
 -- ---- by the facts
 
 abbrev first_revoked : HostClaim → List ℕ → Option ℕ
 first_revoked claim file = first_number (revokes_by claim) 1 (lines_of file)
 
-abbrev first_blind : List ℕ → Option ℕ
-first_blind file = first_number is_blind 1 (lines_of file)
+abbrev first_unreadable_revocation : List ℕ → Option ℕ
+first_unreadable_revocation file = first_number is_unreadable_revocation 1 (lines_of file)
 
 abbrev candidate : HostClaim → List ℕ → Option ℕ
 candidate claim file = option_map admitting_number (candidate_of (map (host_line_verdict claim) (lines_of file)))
@@ -106,8 +106,8 @@ reasons claim file = reasons_of (map (host_line_verdict claim) (lines_of file))
 revokes-some : (claim : HostClaim) (file : List ℕ) → is_some (first_revoked claim file) ≡ list_any (revokes_offer claim.offer) (known_facts file)
 revokes-some claim file = some-number (revokes_offer claim.offer) 1 (lines_of file)
 
-blind-some : (file : List ℕ) → is_some (first_blind file) ≡ list_any may_revoke (known_facts file)
-blind-some file = some-number may_revoke 1 (lines_of file)
+unreadable_revocation-some : (file : List ℕ) → is_some (first_unreadable_revocation file) ≡ list_any may_revoke (known_facts file)
+unreadable_revocation-some file = some-number may_revoke 1 (lines_of file)
 
 admits-some : (claim : HostClaim) (file : List ℕ)
     → is_some (candidate claim file) ≡ list_any (admitting claim) (known_facts file)
@@ -122,11 +122,11 @@ ClearFacts facts claim vouched =
 grants-clear : (file : List ℕ) (claim : HostClaim) (vouched : List Signed) → Grants file claim vouched → ClearFacts (known_facts file) claim vouched
 unfolding ClearFacts host_decision host_scan_of
 grants-clear file claim vouched (line, reported, h) =
-    let clear = granted-clear (first_revoked claim file) (first_blind file) (candidate claim file)
+    let clear = granted-clear (first_revoked claim file) (first_unreadable_revocation file) (candidate claim file)
     (first_unvouched vouched (host_evidence claim)) (reasons claim file) reported (host_evidence claim) line h in
     record {
       unrevoked = sym (revokes-some claim file) ∙ clear.unrevoked;
-      no_unreadable_revocation = sym (blind-some file) ∙ clear.no_unreadable_revocation;
+      no_unreadable_revocation = sym (unreadable_revocation-some file) ∙ clear.no_unreadable_revocation;
       some = sym (admits-some claim file) ∙ clear.some;
       vouched = clear.vouched;
     }
@@ -134,10 +134,10 @@ grants-clear file claim vouched (line, reported, h) =
 clear-grants : (file : List ℕ) (claim : HostClaim) (vouched : List Signed) → ClearFacts (known_facts file) claim vouched → Grants file claim vouched
 unfolding ClearFacts host_decision host_scan_of
 clear-grants file claim vouched clear =
-    let granted = clear-granted (first_revoked claim file) (first_blind file) (candidate claim file)
+    let granted = clear-granted (first_revoked claim file) (first_unreadable_revocation file) (candidate claim file)
     (first_unvouched vouched (host_evidence claim)) (reasons claim file) (host_evidence claim) (record {
       unrevoked = revokes-some claim file ∙ clear.unrevoked;
-      no_unreadable_revocation = blind-some file ∙ clear.no_unreadable_revocation;
+      no_unreadable_revocation = unreadable_revocation-some file ∙ clear.no_unreadable_revocation;
       some = admits-some claim file ∙ clear.some;
       vouched = clear.vouched;
     }) in
@@ -146,25 +146,25 @@ clear-grants file claim vouched clear =
 revokes-fact : (file : List ℕ) (claim : HostClaim) (vouched : List Signed) → IsRevoked (host_decision file claim vouched) ↔ (list_any (revokes_offer claim.offer) (known_facts file) ≡ true)
 unfolding host_decision host_scan_of
 revokes-fact file claim vouched = (
-  λ h. sym (revokes-some claim file) ∙ is-revoked (first_revoked claim file) (first_blind file) (candidate claim file)
+  λ h. sym (revokes-some claim file) ∙ is-revoked (first_revoked claim file) (first_unreadable_revocation file) (candidate claim file)
       (first_unvouched vouched (host_evidence claim)) (reasons claim file) (host_evidence claim) h,
-  λ h. revoked-is (first_revoked claim file) (first_blind file) (candidate claim file)
+  λ h. revoked-is (first_revoked claim file) (first_unreadable_revocation file) (candidate claim file)
       (first_unvouched vouched (host_evidence claim)) (reasons claim file) (host_evidence claim) (revokes-some claim file ∙ h),
 )
 
 -- some line may revoke, and none does
-record OnlyBlind (facts : List KnownLine) (claim : HostClaim) : Type 0 where
+record OnlyUnreadableRevocation (facts : List KnownLine) (claim : HostClaim) : Type 0 where
   unrevoked : list_any (revokes_offer claim.offer) facts ≡ false
-  blind : list_any may_revoke facts ≡ true
+  unreadable_revocation : list_any may_revoke facts ≡ true
 
-blind-fact : (file : List ℕ) (claim : HostClaim) (vouched : List Signed) → IsBlind (host_decision file claim vouched) ↔ OnlyBlind (known_facts file) claim
+unreadable_revocation-fact : (file : List ℕ) (claim : HostClaim) (vouched : List Signed) → IsRevocationUnreadable (host_decision file claim vouched) ↔ OnlyUnreadableRevocation (known_facts file) claim
 unfolding host_decision host_scan_of
-blind-fact file claim vouched = (
-  λ h. let both = is-blind (first_revoked claim file) (first_blind file) (candidate claim file)
+unreadable_revocation-fact file claim vouched = (
+  λ h. let both = is-revocation_unreadable (first_revoked claim file) (first_unreadable_revocation file) (candidate claim file)
       (first_unvouched vouched (host_evidence claim)) (reasons claim file) (host_evidence claim) h in
-      record { unrevoked = sym (revokes-some claim file) ∙ both.0; blind = sym (blind-some file) ∙ both.1 },
-  λ h. blind-is (first_revoked claim file) (first_blind file) (candidate claim file)
-      (first_unvouched vouched (host_evidence claim)) (reasons claim file) (host_evidence claim) (revokes-some claim file ∙ h.unrevoked) (blind-some file ∙ h.blind),
+      record { unrevoked = sym (revokes-some claim file) ∙ both.0; unreadable_revocation = sym (unreadable_revocation-some file) ∙ both.1 },
+  λ h. revocation_unreadable-is (first_revoked claim file) (first_unreadable_revocation file) (candidate claim file)
+      (first_unvouched vouched (host_evidence claim)) (reasons claim file) (host_evidence claim) (revokes-some claim file ∙ h.unrevoked) (unreadable_revocation-some file ∙ h.unreadable_revocation),
 )
 
 -- ---- a file with hashed host names
@@ -174,9 +174,9 @@ revokes-same : (file new : List ℕ) (salts : List (List ℕ)) (claim : HostClai
 revokes-same file new salts claim says =
     ap (list_any (revokes_offer claim.offer)) says ∙ any-kept (revokes_offer claim.offer) (λ e. refl) (known_facts file) salts
 
-blind-same : (file new : List ℕ) (salts : List (List ℕ)) → known_facts new ≡ hashed_facts (known_facts file) salts
+unreadable_revocation-same : (file new : List ℕ) (salts : List (List ℕ)) → known_facts new ≡ hashed_facts (known_facts file) salts
     → list_any may_revoke (known_facts new) ≡ list_any may_revoke (known_facts file)
-blind-same file new salts says = ap (list_any may_revoke) says ∙ any-kept may_revoke (λ e. refl) (known_facts file) salts
+unreadable_revocation-same file new salts says = ap (list_any may_revoke) says ∙ any-kept may_revoke (λ e. refl) (known_facts file) salts
 
 names-counted : (lines : List (List ℕ)) → flat_map (λ line. hidden_names (known_line line)) lines ≡ flat_map hidden_names (map known_line lines)
 names-counted [] = refl
@@ -190,7 +190,7 @@ hashed-keeps file new salts claim vouched says fits grants =
     let enough = subst (λ (names : List (List ℕ)). length names ≤ length salts) (names-counted (lines_of file)) fits in
     clear-grants new claim vouched (record {
       unrevoked = revokes-same file new salts claim says ∙ clear.unrevoked;
-      no_unreadable_revocation = blind-same file new salts says ∙ clear.no_unreadable_revocation;
+      no_unreadable_revocation = unreadable_revocation-same file new salts says ∙ clear.no_unreadable_revocation;
       some = ap (list_any (admitting claim)) says ∙ admission-kept claim (known_facts file) salts enough clear.some;
       vouched = clear.vouched;
     })
@@ -203,7 +203,7 @@ hashed-adds_none file new salts claim vouched says grants =
     elim (admission-added claim (known_facts file) salts (sym (ap (list_any (admitting claim)) says) ∙ clear.some)) [
       | inl some ↦ inl (clear-grants file claim vouched (record {
         unrevoked = sym (revokes-same file new salts claim says) ∙ clear.unrevoked;
-        no_unreadable_revocation = sym (blind-same file new salts says) ∙ clear.no_unreadable_revocation;
+        no_unreadable_revocation = sym (unreadable_revocation-same file new salts says) ∙ clear.no_unreadable_revocation;
         some = some;
         vouched = clear.vouched;
       }))
@@ -235,15 +235,15 @@ hashed-revoked file new salts claim vouched says =
     let same = revokes-same file new salts claim says in
     (λ h. now.1 (same ∙ old.0 h), λ h. old.1 (sym same ∙ now.0 h))
 
-pub hashed-blind : (file new : List ℕ) (salts : List (List ℕ)) (claim : HostClaim) (vouched : List Signed) → known_facts new ≡ hashed_facts (known_facts file) salts
-    → IsBlind (host_decision file claim vouched) ↔ IsBlind (host_decision new claim vouched)
-hashed-blind file new salts claim vouched says =
-    let old = blind-fact file claim vouched in
-    let now = blind-fact new claim vouched in
+pub hashed-unreadable_revocation : (file new : List ℕ) (salts : List (List ℕ)) (claim : HostClaim) (vouched : List Signed) → known_facts new ≡ hashed_facts (known_facts file) salts
+    → IsRevocationUnreadable (host_decision file claim vouched) ↔ IsRevocationUnreadable (host_decision new claim vouched)
+hashed-unreadable_revocation file new salts claim vouched says =
+    let old = unreadable_revocation-fact file claim vouched in
+    let now = unreadable_revocation-fact new claim vouched in
     let revokes = revokes-same file new salts claim says in
-    let blind = blind-same file new salts says in (
-      λ h. let o = old.0 h in now.1 (record { unrevoked = revokes ∙ o.unrevoked; blind = blind ∙ o.blind }),
-      λ h. let n = now.0 h in old.1 (record { unrevoked = sym revokes ∙ n.unrevoked; blind = sym blind ∙ n.blind }),
+    let unreadable_revocation = unreadable_revocation-same file new salts says in (
+      λ h. let o = old.0 h in now.1 (record { unrevoked = revokes ∙ o.unrevoked; unreadable_revocation = unreadable_revocation ∙ o.unreadable_revocation }),
+      λ h. let n = now.0 h in old.1 (record { unrevoked = sym revokes ∙ n.unrevoked; unreadable_revocation = sym unreadable_revocation ∙ n.unreadable_revocation }),
     )
 
 -- ---- what hashing answers

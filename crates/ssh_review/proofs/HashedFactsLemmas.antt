@@ -1,5 +1,5 @@
 -- Lines decide as before when the names of some are hashed, but for names with the same hash.
-use Rattle.ssh_review.proofs.Imports.{◌≡◌, ◌≢◌, ◌∙◌, ◌⊎◌, ◌↔◌, ◌≤◌, ℕ, zero, suc, ◌+◌, ◌-◌, Bool, true, false, ◌||◌, if◌then◌else◌, List, [], ◌∷◌, ◌++◌, length, map, drop, Option, Some, None, refl, sym, ap, subst, inl, inr, arith, Contains, flat_map, list_any, zip, bytes_eq, and_parts, or_cases, length-append, length-drop, Contains-append_left, Contains-append_right, list_any-append, bytes_eq-Decides, Names, NamesHost, hidden, name_hash, KnownEntry, KnownLine, are_plain, hashed_facts, hidden_entry, hidden_names, is_hidden, lower_names, names_of_hidden, said_in_place, mem-from, mem-to, have-name, lookup-lower, name-had, HostClaim, Mismatch, AdmitsHost, host_mismatch, looked_up, verdict_by, host_verdict, host_where_none, none_where_host, admits}
+use Rattle.ssh_review.proofs.Imports.{◌≡◌, ◌≢◌, ◌∙◌, ◌⊎◌, ◌↔◌, ◌≤◌, ℕ, zero, suc, ◌+◌, ◌-◌, Bool, true, false, ◌||◌, if◌then◌else◌, List, [], ◌∷◌, ◌++◌, length, map, drop, Option, Some, None, refl, sym, ap, subst, inl, inr, arith, Contains, flat_map, list_any, zip, bytes_eq, and_parts, or_cases, length-append, length-drop, Contains-append_left, Contains-append_right, list_any-append, bytes_eq-Decides, Names, NamesHost, hidden, name_hash, KnownEntry, KnownLine, are_plain, hashed_facts, hidden_entry, hidden_names, is_hidden, lower_names, names_of_hidden, state_in_place, mem-from, mem-to, have-name, lookup-lower, name-had, HostClaim, Mismatch, AdmitsHost, host_mismatch, looked_up, verdict_by, host_verdict, host_where_none, none_where_host, admits}
 use Rattle.ssh_entries.specs.declared.known_line.KnownLine.TheVariants as known
 use Rattle.ssh_review.proofs.ListLemmas.{contains-cases, contains-here, contains-later, contains-none, or-here, or-later}
 
@@ -45,11 +45,11 @@ or-nothing true = refl
 or-nothing false = refl
 
 place-any : (passes : KnownLine → Bool) → ((e : KnownEntry) → passes (known.Entry e) ≡ false) → (said : KnownLine) (salts : List (List ℕ))
-    → list_any passes (said_in_place (hidden_entry said) said salts) ≡ passes said
+    → list_any passes (state_in_place (hidden_entry said) said salts) ≡ passes said
 place-any passes apart said salts =
     elim (hiding said) [
-      | inl none ↦ ap (λ o. list_any passes (said_in_place o said salts)) none ∙ or-nothing (passes said)
-      | inr found ↦ ap (λ o. list_any passes (said_in_place o said salts)) found.1.hides
+      | inl none ↦ ap (λ o. list_any passes (state_in_place o said salts)) none ∙ or-nothing (passes said)
+      | inr found ↦ ap (λ o. list_any passes (state_in_place o said salts)) found.1.hides
           ∙ none-made passes apart found.0 (zip salts (lower_names found.0.names)) ∙ sym (ap passes found.1.says ∙ apart found.0)
     ]
 
@@ -59,7 +59,7 @@ pub any-kept : (passes : KnownLine → Bool) → ((e : KnownEntry) → passes (k
 any-kept passes apart [] salts = refl
 any-kept passes apart (said ∷ lines) salts =
     let rest = drop (length (hidden_names said)) salts in
-    list_any-append passes (said_in_place (hidden_entry said) said salts) (hashed_facts lines rest)
+    list_any-append passes (state_in_place (hidden_entry said) said salts) (hashed_facts lines rest)
     ∙ ap (λ b. b || list_any passes (hashed_facts lines rest)) (place-any passes apart said salts)
     ∙ ap (λ b. passes said || b) (any-kept passes apart lines rest)
 
@@ -107,14 +107,14 @@ made-admits claim entry a (salt ∷ salts) (name ∷ names) has fits =
     ]
 
 place-admits : (claim : HostClaim) (said : KnownLine) (salts : List (List ℕ)) → length (hidden_names said) ≤ length salts → admitting claim said ≡ true
-    → list_any (admitting claim) (said_in_place (hidden_entry said) said salts) ≡ true
+    → list_any (admitting claim) (state_in_place (hidden_entry said) said salts) ≡ true
 place-admits claim said salts fits h =
     elim (hiding said) [
-      | inl none ↦ ap (λ o. list_any (admitting claim) (said_in_place o said salts)) none ∙ or-here (admitting claim said) false h
+      | inl none ↦ ap (λ o. list_any (admitting claim) (state_in_place o said salts)) none ∙ or-here (admitting claim said) false h
       | inr found ↦
           let a : AdmitsHost found.0 claim = entry-admits claim found.0 (ap (admitting claim) (sym found.1.says) ∙ h) in
           let count : length (hidden_names said) ≡ length (lower_names found.0.names) = ap (λ o. length (names_of_hidden o)) found.1.hides in
-          ap (λ o. list_any (admitting claim) (said_in_place o said salts)) found.1.hides
+          ap (λ o. list_any (admitting claim) (state_in_place o said salts)) found.1.hides
           ∙ made-admits claim found.0 a salts (lower_names found.0.names) ((names-plain found.0.names claim found.1.plain).0 a.names) (omega (arith, count, fits))
     ]
 
@@ -126,11 +126,11 @@ admission-kept claim (said ∷ lines) salts fits h =
     let rest = drop (length (hidden_names said)) salts in
     let all : length (flat_map hidden_names (said ∷ lines)) ≡ length (hidden_names said) + length (flat_map hidden_names lines) = length-append (hidden_names said) (flat_map hidden_names lines) in
     let left : length rest ≡ length salts - length (hidden_names said) = length-drop (length (hidden_names said)) salts in
-    list_any-append (admitting claim) (said_in_place (hidden_entry said) said salts) (hashed_facts lines rest)
+    list_any-append (admitting claim) (state_in_place (hidden_entry said) said salts) (hashed_facts lines rest)
     ∙ elim (or_cases (admitting claim said) (list_any (admitting claim) lines) h) [
-      | inl here ↦ or-here (list_any (admitting claim) (said_in_place (hidden_entry said) said salts)) (list_any (admitting claim) (hashed_facts lines rest))
+      | inl here ↦ or-here (list_any (admitting claim) (state_in_place (hidden_entry said) said salts)) (list_any (admitting claim) (hashed_facts lines rest))
           (place-admits claim said salts (omega (arith, fits, all)) here)
-      | inr later ↦ or-later (list_any (admitting claim) (said_in_place (hidden_entry said) said salts)) (list_any (admitting claim) (hashed_facts lines rest))
+      | inr later ↦ or-later (list_any (admitting claim) (state_in_place (hidden_entry said) said salts)) (list_any (admitting claim) (hashed_facts lines rest))
           (admission-kept claim lines rest (omega (arith, fits, all, left)) later)
     ]
 
@@ -241,17 +241,17 @@ shared-more old new more_old more_new salts more_salts claim f g k s = record {
   same_hash = s.same_hash;
 }
 
-place-shares : (claim : HostClaim) (said : KnownLine) (salts : List (List ℕ)) → list_any (admitting claim) (said_in_place (hidden_entry said) said salts) ≡ true
-    → (admitting claim said ≡ true) ⊎ IsShared (said ∷ []) (said_in_place (hidden_entry said) said salts) salts claim
+place-shares : (claim : HostClaim) (said : KnownLine) (salts : List (List ℕ)) → list_any (admitting claim) (state_in_place (hidden_entry said) said salts) ≡ true
+    → (admitting claim said ≡ true) ⊎ IsShared (said ∷ []) (state_in_place (hidden_entry said) said salts) salts claim
 place-shares claim said salts h =
     elim (hiding said) [
-      | inl none ↦ inl (sym (or-nothing (admitting claim said)) ∙ ap (λ o. list_any (admitting claim) (said_in_place o said salts)) (sym none) ∙ h)
+      | inl none ↦ inl (sym (or-nothing (admitting claim said)) ∙ ap (λ o. list_any (admitting claim) (state_in_place o said salts)) (sym none) ∙ h)
       | inr found ↦
           let entry = found.0 in
-          let p = pair (admitting claim) entry salts (lower_names entry.names) (ap (λ o. list_any (admitting claim) (said_in_place o said salts)) (sym found.1.hides) ∙ h) in
+          let p = pair (admitting claim) entry salts (lower_names entry.names) (ap (λ o. list_any (admitting claim) (state_in_place o said salts)) (sym found.1.hides) ∙ h) in
           elim (shared-by claim entry salts found.1.plain p (bytes_eq p.name (looked_up claim.query)) refl) [
             | inl same ↦ inl (ap (admitting claim) found.1.says ∙ same)
-            | inr shared ↦ inr (subst (λ (o : Option KnownEntry). IsShared (said ∷ []) (said_in_place o said salts) salts claim) (sym found.1.hides)
+            | inr shared ↦ inr (subst (λ (o : Option KnownEntry). IsShared (said ∷ []) (state_in_place o said salts) salts claim) (sym found.1.hides)
                 (subst (λ (s : KnownLine). IsShared (s ∷ []) (map (made entry) (zip salts (lower_names entry.names))) salts claim) (sym found.1.says) shared))
           ]
     ]
@@ -262,7 +262,7 @@ pub admission-added : (claim : HostClaim) (facts : List KnownLine) (salts : List
 admission-added claim [] salts h = cc
 admission-added claim (said ∷ lines) salts h =
     let rest = drop (length (hidden_names said)) salts in
-    let place = said_in_place (hidden_entry said) said salts in
+    let place = state_in_place (hidden_entry said) said salts in
     let both : (list_any (admitting claim) place || list_any (admitting claim) (hashed_facts lines rest)) ≡ true = sym (list_any-append (admitting claim) place (hashed_facts lines rest)) ∙ h in
     elim (or_cases (list_any (admitting claim) place) (list_any (admitting claim) (hashed_facts lines rest)) both) [
       | inl here ↦ elim (place-shares claim said salts here) [

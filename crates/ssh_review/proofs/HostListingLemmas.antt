@@ -1,5 +1,5 @@
 -- A trusted host's line is listed, and no line revokes its key.
-use Rattle.ssh_review.proofs.Imports.{◌≡◌, ◌∙◌, ◌+◌, ◌-◌, ◌++◌, ◌||◌, ◌⊎◌, inl, inr, ℕ, zero, suc, Bool, true, false, List, [], ◌∷◌, Option, Some, ap, sym, refl, subst, drop, take, AllByRecursion, slice_get, append-nil, append_assoc, bytes_eq-Decides, sha256, lines_of, numbered, lines_of-are, key_blob, KnownEntry, known_line, KnownLine, Revoked, RevokedUnreadable, known_line-spelled, read-blind, read-revokes, Signed, HostClaim, Offer, certified, plain, Rights, Reason, IsOwn, is_key_or_signer, Decision, Granted, HostMeans, IsHostGrant, at-place, line-bytes, line-of, host_means, Asking, HostLine, revokes, granted, revoked_then, Form, RecordForm, AsLines, end_line, host_counts_of, host_kept_of, host_line_record, host_records_of, IsHostListed, lines_kept}
+use Rattle.ssh_review.proofs.Imports.{◌≡◌, ◌∙◌, ◌+◌, ◌-◌, ◌++◌, ◌||◌, ◌⊎◌, inl, inr, ℕ, zero, suc, Bool, true, false, List, [], ◌∷◌, Option, Some, ap, sym, refl, subst, drop, take, AllByRecursion, slice_get, append-nil, append_assoc, bytes_eq-Decides, sha256, lines_of, numbered, lines_of-are, key_blob, KnownEntry, known_line, KnownLine, Revoked, RevokedUnreadable, known_line-spelled, read-unreadable_revocation, read-revokes, Signed, HostClaim, Offer, certified, plain, Rights, Reason, IsOwn, is_key_or_signer, Decision, Granted, HostMeans, IsHostGrant, at-place, line-bytes, line-of, host_means, Asking, HostLine, revokes, granted, revoked_then, Form, RecordForm, AsLines, end_line, host_counts_of, host_kept_of, host_line_record, host_records_of, IsHostListed, lines_kept}
 use Rattle.ssh_entries.specs.declared.known_line.KnownLine.TheVariants.{Blank, Comment}
 use Rattle.ssh_trust.proofs.CandidateLemmas.{AreBytes}
 use Rattle.std.specs.Prelude.{bytes_eq}
@@ -118,7 +118,7 @@ listed-by form asking name file claim vouched n e all grant =
           let own : true ≡ false = sym (revoked_then bytes e claim same candidate.admits)
           ∙ no-own file claim vouched n e all grant (i - 1) other bytes (line-of file i other stood) is in
           cc;
-      no_unreadable_revocation = λ i other stood is. grant.no_unreadable_revocation i (other, stood, read-blind other is);
+      no_unreadable_revocation = λ i other stood is. grant.no_unreadable_revocation i (other, stood, read-unreadable_revocation other is);
     }
 
 pub trusted : (form : Form) (asking : Asking) (name file : List ℕ) (claim : HostClaim) (vouched : List Signed) (n : ℕ) (rights : Option Rights) (reasons : List (ℕ × Reason)) (evidence : List Signed)

@@ -1,6 +1,6 @@
 -- The review of a known_hosts file depends on what its lines are read as, so that of its canonical file is the same,
 -- but for tabs after markers.
-use Rattle.ssh_review.proofs.Imports.{◌≡◌, ◌∙◌, ◌++◌, ◌+◌, ◌&&◌, ℕ, Bool, false, List, [], ◌∷◌, map, ap, sym, refl, AllByRecursion, HasNoNewline, lines_of, numbered, lines_of-whole, key_blob, names_text, KnownEntry, known_line, KnownLine, Revoked, RevokedUnreadable, Marker, comment_part, key_text, marker_part, canonical_known_file, known_or_same, known_written, AreGood, IsGood, good, known-kept, marks_authority, Asking, HostFacts, HostFinding, revoking, trusting, has_tab_after_first, revocation_facts_of, unreadable_revocation_findings, host_entry_findings, revocation_findings, unreadable_host_findings, HostLine, Counts, RecordForm, no_counts, plus, host_counts_with, blind_record, host_entry_record, revoked_record, host_unreadable_record, host_counts_of, host_kept_of, host_line_findings, host_line_record, host_records_of, known_key_reported, HasNoMarkerTab, has_marker_tab}
+use Rattle.ssh_review.proofs.Imports.{◌≡◌, ◌∙◌, ◌++◌, ◌+◌, ◌&&◌, ℕ, Bool, false, List, [], ◌∷◌, map, ap, sym, refl, AllByRecursion, HasNoNewline, lines_of, numbered, lines_of-whole, key_blob, names_text, KnownEntry, known_line, KnownLine, Revoked, RevokedUnreadable, Marker, comment_part, key_text, marker_part, canonical_known_file, known_or_same, known_written, AreGood, IsGood, good, known-kept, marks_authority, Asking, HostFacts, HostFinding, revoking, trusting, has_tab_after_first, revocation_facts_of, unreadable_revocation_findings, host_entry_findings, revocation_findings, unreadable_host_findings, HostLine, Counts, RecordForm, no_counts, plus, host_counts_with, unreadable_revocation_record, host_entry_record, revoked_record, host_unreadable_record, host_counts_of, host_kept_of, host_line_findings, host_line_record, host_records_of, known_key_reported, HasNoMarkerTab, has_marker_tab}
 use Rattle.ssh_entries.specs.declared.known_line.KnownLine.TheVariants.{Blank, Comment}
 use Rattle.ssh_trust.proofs.CandidateLemmas.{AreBytes}
 use Rattle.std.proofs.Common.{append_assoc}
@@ -116,7 +116,7 @@ record-by form name n (Blank, line, tab) found = []
 record-by form name n (Comment, line, tab) found = []
 record-by form name n (Entry e, line, tab) found = host_entry_record form name n (facts-by e tab) found
 record-by form name n (Revoked bytes, line, tab) found = revoked_record form name n bytes (revocation_facts_of line bytes) found
-record-by form name n (RevokedUnreadable, line, tab) found = blind_record form name n (known_key_reported line) found
+record-by form name n (RevokedUnreadable, line, tab) found = unreadable_revocation_record form name n (known_key_reported line) found
 record-by form name n (Unreadable cause, line, tab) found = host_unreadable_record form name n (known_key_reported line) found
 
 record-is : (form : RecordForm) (asking : Asking) (name : List ℕ) (earlier : List HostLine) (n : ℕ) (line : List ℕ) (l : KnownLine)

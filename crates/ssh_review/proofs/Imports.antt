@@ -18,7 +18,7 @@ pub use Rattle.ssh_entries.proofs.FieldLemmas.{body-bytes, next-bytes, word-byte
 pub use Rattle.ssh_entries.proofs.LengthLemmas.{length_next, length-word, length_body}
 pub use Rattle.ssh_entries.proofs.ReadAuth.{auth_line-spells}
 pub use Rattle.ssh_entries.proofs.ReadKnown.{known_line-spells, known_line-spelled}
-pub use Rattle.ssh_entries.proofs.RevokedLemmas.{read-revokes, read-blind}
+pub use Rattle.ssh_entries.proofs.RevokedLemmas.{read-revokes, read-unreadable_revocation}
 pub use Rattle.ssh_entries.specs.AuthEntry.{AuthEntry}
 pub use Rattle.ssh_entries.specs.AuthGrammar.{auth_line, SpellsEntry, SpellsOptions}
 pub use Rattle.ssh_entries.specs.KeyPart.{SpellsKey}
@@ -108,10 +108,10 @@ pub use Rattle.ssh_findings.specs.HostFindingsFindings.{host_refusal, host_row}
 pub use Rattle.ssh_review.specs.Findings.{cause_detail, cause_text, code_object, detail_part, detail_with, finding_head, finding_line, findings_end, host_finding_line, host_findings_end, object_after_comma, row_detail, row_line, row_object, row_sentence, rows_end, rows_list, value_text}
 pub use Rattle.ssh_findings.specs.declared.row.Value.{Value}
 pub use Rattle.ssh_review.specs.Forms.{end_line, file_fault_line, total_line, unreadable_record}
-pub use Rattle.ssh_review.specs.Grants.{FindsShared, Grants, IsBlind, IsRevoked}
+pub use Rattle.ssh_review.specs.Grants.{FindsShared, Grants, IsRevocationUnreadable, IsRevoked}
 pub use Rattle.ssh_review.specs.HostListing.{IsHostListed, lines_kept}
 pub use Rattle.ssh_review.specs.HostCounting.{host_counts_with}
-pub use Rattle.ssh_review.specs.HostForms.{blind_record, host_entry_record, revoked_record, host_unreadable_record}
+pub use Rattle.ssh_review.specs.HostForms.{unreadable_revocation_record, host_entry_record, revoked_record, host_unreadable_record}
 pub use Rattle.ssh_review.specs.HostLines.{host_counts_of, host_kept_of, host_records_of, host_line_counts, host_line_record, host_kept_lines, host_line_findings, known_key_reported}
 pub use Rattle.ssh_review.specs.HostMemory.{host_line_bytes, host_line_sum, over_lines, host_line_spelling}
 pub use Rattle.ssh_review.specs.HostReviews.{known_review}
@@ -143,7 +143,7 @@ pub use Rattle.ssh_rewriting.specs.Answer.{hashed, rewritten}
 pub use Rattle.ssh_rewriting.specs.Canonical.{after_comma, option_text, comment_part, key_text, marker_part}
 pub use Rattle.ssh_rewriting.specs.CanonicalFile.{canonical_known_file, known_written, auth_written, canonical_auth_file, known_or_same, auth_or_same}
 pub use Rattle.ssh_rewriting.specs.Facts.{known_facts, auth_facts}
-pub use Rattle.ssh_rewriting.specs.HashedFile.{hashed_facts, hidden_names, hashed_file, names_hidden, are_plain, hidden_entry, is_hidden, lower_names, names_of_hidden, said_in_place}
+pub use Rattle.ssh_rewriting.specs.HashedFile.{hashed_facts, hidden_names, hashed_file, names_hidden, are_plain, hidden_entry, is_hidden, lower_names, names_of_hidden, state_in_place}
 pub use Rattle.ssh_rewriting.specs.declared.hash.HashError.{HashError}
 pub use Rattle.ssh_rewriting.specs.declared.hash.HashError.TheVariants.{TooFewSalts}
 pub use Rattle.ssh_rewriting.specs.declared.rewrite.RewriteError.{RewriteError}
@@ -169,7 +169,7 @@ pub use Rattle.ssh_trust.specs.Answer.{host_answer, login_answer}
 pub use Rattle.ssh_trust.specs.Candidate.{admits, candidate_of, first_admitted, reasons_of}
 pub use Rattle.ssh_trust.specs.FileLines.{StandsAt}
 pub use Rattle.ssh_trust.specs.HostDecision.{host_decision_by, revocation_cause, HostMeans, IsHostGrant, host_decision_of}
-pub use Rattle.ssh_trust.specs.HostScan.{first_number, is_blind, admitting_number, revokes_by, host_line_verdict}
+pub use Rattle.ssh_trust.specs.HostScan.{first_number, is_unreadable_revocation, admitting_number, revokes_by, host_line_verdict}
 pub use Rattle.ssh_trust.specs.LoginDecision.{IsCandidate, IsGrant, line_verdict, candidate_at, decision_of, verdicts}
 pub use Rattle.ssh_trust.specs.Scan.{scan_of}
 pub use Rattle.ssh_trust.specs.declared.decision.Decision.{Decision}

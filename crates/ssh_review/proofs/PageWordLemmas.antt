@@ -96,7 +96,7 @@ class-said code.Expired = record { is = refl; next = refl }
 class-said code.PermitsNobody = record { is = refl; next = refl }
 class-said code.ReadOtherwise = record { is = refl; next = refl }
 class-said code.ForcedButForwards = record { is = refl; next = refl }
-class-said code.BlindRevocation = record { is = refl; next = refl }
+class-said code.UnreadableRevocation = record { is = refl; next = refl }
 class-said code.OtherKey = record { is = refl; next = refl }
 class-said code.TrustedAndRevoked = record { is = refl; next = refl }
 class-said code.PatternHosts = record { is = refl; next = refl }

@@ -154,7 +154,7 @@ code-plain code.Expired = record { all = refl }
 code-plain code.PermitsNobody = record { all = refl }
 code-plain code.ReadOtherwise = record { all = refl }
 code-plain code.ForcedButForwards = record { all = refl }
-code-plain code.BlindRevocation = record { all = refl }
+code-plain code.UnreadableRevocation = record { all = refl }
 code-plain code.OtherKey = record { all = refl }
 code-plain code.TrustedAndRevoked = record { all = refl }
 code-plain code.PatternHosts = record { all = refl }
@@ -213,7 +213,7 @@ host-texts (host.ShortKey bits) = record { detail = refl; before = refl; after =
 host-texts host.MarkerTab = record { detail = refl; before = refl; after = refl }
 host-texts host.RevocationTab = record { detail = refl; before = refl; after = refl }
 host-texts host.RevocationType = record { detail = refl; before = refl; after = refl }
-host-texts host.BlindRevocation = record { detail = refl; before = refl; after = refl }
+host-texts host.UnreadableRevocation = record { detail = refl; before = refl; after = refl }
 host-texts (host.OtherKey line) = record { detail = refl; before = refl; after = refl }
 host-texts (host.TrustedAndRevoked line) = record { detail = refl; before = refl; after = refl }
 host-texts (host.RevokedSpelling line) = record { detail = refl; before = refl; after = refl }

@@ -1,5 +1,5 @@
 -- The decision of a file depends on what its lines are read as, so that of its canonical file is the same.
-use Rattle.ssh_review.proofs.Imports.{◌≡◌, ◌∙◌, ℕ, ◌+◌, Bool, true, false, cond, ltb, List, [], ◌∷◌, length, map, Option, Some, None, Result, Ok, Err, refl, sym, ap, file_limit, lines_of, KnownLine, auth_line, known_line, RewriteError, rewritten, auth_written, canonical_auth_file, canonical_known_file, known_written, auth_facts, known_facts, file-says, auth-kept, known-kept, Signed, HostClaim, LoginClaim, host_evidence, login_evidence, may_revoke, revokes_offer, login_verdict, host_verdict, Decision, HostScan, host_answer, login_answer, candidate_at, decision_of, verdicts, host_decision_of, first_number, is_blind, admitting_number, revokes_by, scan_of}
+use Rattle.ssh_review.proofs.Imports.{◌≡◌, ◌∙◌, ℕ, ◌+◌, Bool, true, false, cond, ltb, List, [], ◌∷◌, length, map, Option, Some, None, Result, Ok, Err, refl, sym, ap, file_limit, lines_of, KnownLine, auth_line, known_line, RewriteError, rewritten, auth_written, canonical_auth_file, canonical_known_file, known_written, auth_facts, known_facts, file-says, auth-kept, known-kept, Signed, HostClaim, LoginClaim, host_evidence, login_evidence, may_revoke, revokes_offer, login_verdict, host_verdict, Decision, HostScan, host_answer, login_answer, candidate_at, decision_of, verdicts, host_decision_of, first_number, is_unreadable_revocation, admitting_number, revokes_by, scan_of}
 use Rattle.ssh_trust.proofs.CandidateLemmas.{AreBytes}
 use Rattle.ssh_rewriting.specs.declared.rewrite.RewriteError.TheVariants.{TooLong}
 use Rattle.ssh_trust.specs.LoginDecision.{login_decision}
@@ -42,8 +42,8 @@ login-canonical file claim vouched bytes = login-same (canonical_auth_file file)
 revoked-by-facts : (claim : HostClaim) (file : List ℕ) → first_number (revokes_by claim) 1 (lines_of file) ≡ first_said (revokes_offer claim.offer) 1 (known_facts file)
 revoked-by-facts claim file = first-by-facts (revokes_offer claim.offer) known_line 1 (lines_of file)
 
-blind-by-facts : (file : List ℕ) → first_number is_blind 1 (lines_of file) ≡ first_said may_revoke 1 (known_facts file)
-blind-by-facts file = first-by-facts may_revoke known_line 1 (lines_of file)
+unreadable_revocation-by-facts : (file : List ℕ) → first_number is_unreadable_revocation 1 (lines_of file) ≡ first_said may_revoke 1 (known_facts file)
+unreadable_revocation-by-facts file = first-by-facts may_revoke known_line 1 (lines_of file)
 
 scan_by_facts : HostClaim → List KnownLine → HostScan
 scan_by_facts claim facts = record {
@@ -55,7 +55,7 @@ scan_by_facts claim facts = record {
 host-by-facts : (claim : HostClaim) (file : List ℕ) → host_scan_of claim file ≡ scan_by_facts claim (known_facts file)
 unfolding host_scan_of scan_by_facts
 host-by-facts claim file =
-    rw (by-facts (host_verdict claim) known_line (lines_of file), revoked-by-facts claim file, blind-by-facts file) refl
+    rw (by-facts (host_verdict claim) known_line (lines_of file), revoked-by-facts claim file, unreadable_revocation-by-facts file) refl
 
 pub host-same : (file other : List ℕ) (claim : HostClaim) (vouched : List Signed) → known_facts file ≡ known_facts other → host_decision file claim vouched ≡ host_decision other claim vouched
 unfolding host_decision

@@ -61,7 +61,7 @@ host-texts (host.ShortKey bits) = record { detail = refl; before = refl; after =
 host-texts host.MarkerTab = record { detail = refl; before = refl; after = refl }
 host-texts host.RevocationTab = record { detail = refl; before = refl; after = refl }
 host-texts host.RevocationType = record { detail = refl; before = refl; after = refl }
-host-texts host.BlindRevocation = record { detail = refl; before = refl; after = refl }
+host-texts host.UnreadableRevocation = record { detail = refl; before = refl; after = refl }
 host-texts (host.OtherKey line) = record { detail = refl; before = refl; after = refl }
 host-texts (host.TrustedAndRevoked line) = record { detail = refl; before = refl; after = refl }
 host-texts (host.RevokedSpelling line) = record { detail = refl; before = refl; after = refl }

@@ -160,7 +160,7 @@ code-printable code.Expired = record { all = refl }
 code-printable code.PermitsNobody = record { all = refl }
 code-printable code.ReadOtherwise = record { all = refl }
 code-printable code.ForcedButForwards = record { all = refl }
-code-printable code.BlindRevocation = record { all = refl }
+code-printable code.UnreadableRevocation = record { all = refl }
 code-printable code.OtherKey = record { all = refl }
 code-printable code.TrustedAndRevoked = record { all = refl }
 code-printable code.PatternHosts = record { all = refl }

@@ -60,7 +60,7 @@ detail_part (c ∷ cs) = codes " " ++ c ∷ cs
 
 -- the start of the line of a finding: its code and its detail
 abbrev pub finding_head : List ℕ → List ℕ → List ℕ
-finding_head code said = codes "    " ++ code ++ detail_part said ++ codes ": "
+finding_head code detail_text = codes "    " ++ code ++ detail_part detail_text ++ codes ": "
 
 -- the line of a finding
 abbrev pub row_line : FindingRow → List ℕ
@@ -76,7 +76,7 @@ host_finding_line f = row_line (host_row f)
 
 -- a code and its detail
 unfoldable pub code_object : List ℕ → List ℕ → List ℕ
-code_object code said = codes "{\"code\":" ++ json_text code ++ text_field (codes "detail") said ++ codes "}"
+code_object code detail_text = codes "{\"code\":" ++ json_text code ++ text_field (codes "detail") detail_text ++ codes "}"
 
 abbrev pub row_object : FindingRow → List ℕ
 row_object r = code_object (code_text r.code) (row_detail r)

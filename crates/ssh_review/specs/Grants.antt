@@ -21,8 +21,8 @@ abbrev pub IsRevoked : Decision → Type 0
 IsRevoked d = (line : ℕ) × (reasons : List (ℕ × Reason)) × (evidence : List Signed) × (d ≡ Denied (Revoked line) reasons evidence)
 
 -- Some line cannot be read and may revoke any key.
-abbrev pub IsBlind : Decision → Type 0
-IsBlind d = (line : ℕ) × (reasons : List (ℕ × Reason)) × (evidence : List Signed) × (d ≡ Denied (RevocationUnreadable line) reasons evidence)
+abbrev pub IsRevocationUnreadable : Decision → Type 0
+IsRevocationUnreadable d = (line : ℕ) × (reasons : List (ℕ × Reason)) × (evidence : List Signed) × (d ≡ Denied (RevocationUnreadable line) reasons evidence)
 
 -- An entry of the new file admits the claim and was made from another name than the one looked up, and both names have
 -- the same hash under the entry's salt.

@@ -36,8 +36,8 @@ bare_record (AsLines (Line kind)) name n is held found = bare_in Cell name n is 
 bare_record (AsRow file) name n is held found = marks (bare_row (row_place file n) is held found)
 
 -- the record of an unreadable revocation, which may revoke any key, with its recovered key, if there is one
-abbrev pub blind_record : RecordForm → List ℕ → ℕ → Option HeldKey → List HostFinding → List ℕ
-blind_record form name n held found = bare_record form name n (codes "revocation-unreadable") held found
+abbrev pub unreadable_revocation_record : RecordForm → List ℕ → ℕ → Option HeldKey → List HostFinding → List ℕ
+unreadable_revocation_record form name n held found = bare_record form name n (codes "revocation-unreadable") held found
 
 -- the record of any other line that cannot be read, with its recovered key, if there is one
 abbrev pub host_unreadable_record : RecordForm → List ℕ → ℕ → Option HeldKey → List HostFinding → List ℕ

@@ -25,8 +25,8 @@ host_holds_key fingerprint line (Unreadable cause) = recovers_key fingerprint (k
 
 -- the record of a line that holds the key, as the whole review prints it; no other line has one
 abbrev pub host_key_record : List ℕ → RecordForm → Asking → List ℕ → List HostLine → ℕ → List ℕ → KnownLine → List ℕ
-host_key_record fingerprint form asking name earlier n line said =
-    if host_holds_key fingerprint line said then host_line_record form asking name earlier n line said else []
+host_key_record fingerprint form asking name earlier n line state =
+    if host_holds_key fingerprint line state then host_line_record form asking name earlier n line state else []
 
 -- the records of the lines that hold the key, after these lines
 abbrev pub host_key_records_of : List ℕ → RecordForm → Asking → List ℕ → List HostLine → List (ℕ × List ℕ) → List ℕ
@@ -37,9 +37,9 @@ host_key_records_of fingerprint form asking name earlier (line ∷ lines) =
 
 -- the counts of a line, and whether it holds the key: one that does not counts as a line alone
 abbrev pub host_key_counts : List ℕ → Asking → List HostLine → List ℕ → KnownLine → KeyCounts
-host_key_counts fingerprint asking earlier line said = record {
-  counts = if host_holds_key fingerprint line said then host_line_counts asking earlier line said else line_alone;
-  stands = host_holds_key fingerprint line said;
+host_key_counts fingerprint asking earlier line state = record {
+  counts = if host_holds_key fingerprint line state then host_line_counts asking earlier line state else line_alone;
+  stands = host_holds_key fingerprint line state;
 }
 
 -- the sums of the counts of lines, and whether one of them holds the key

@@ -17,7 +17,7 @@ use Rattle.ssh_review.specs.declared.end.Counts.{Counts}
 use Rattle.ssh_review.specs.declared.records.RecordForm.{RecordForm}
 use Rattle.ssh_review.specs.Counting.{no_counts, plus}
 use Rattle.ssh_review.specs.HostCounting.{host_counts_with}
-use Rattle.ssh_review.specs.HostForms.{blind_record, host_entry_record, revoked_record, host_unreadable_record}
+use Rattle.ssh_review.specs.HostForms.{unreadable_revocation_record, host_entry_record, revoked_record, host_unreadable_record}
 
 -- the reported findings of a line after these lines
 abbrev pub host_line_findings : Asking → List HostLine → List ℕ → KnownLine → List HostFinding
@@ -42,12 +42,12 @@ host_line_record form asking name earlier n line (Entry entry) =
 host_line_record form asking name earlier n line (Revoked bytes) =
     revoked_record form name n bytes (revocation_facts_of line bytes) (host_line_findings asking earlier line (Revoked bytes))
 host_line_record form asking name earlier n line RevokedUnreadable =
-    blind_record form name n (known_key_reported line) (host_line_findings asking earlier line RevokedUnreadable)
+    unreadable_revocation_record form name n (known_key_reported line) (host_line_findings asking earlier line RevokedUnreadable)
 host_line_record form asking name earlier n line (Unreadable cause) =
     host_unreadable_record form name n (known_key_reported line) (host_line_findings asking earlier line (Unreadable cause))
 
 abbrev pub host_line_counts : Asking → List HostLine → List ℕ → KnownLine → Counts
-host_line_counts asking earlier line said = host_counts_with said (host_line_findings asking earlier line said)
+host_line_counts asking earlier line state = host_counts_with state (host_line_findings asking earlier line state)
 
 -- the facts of a line that later lines need
 abbrev pub host_kept_of : ℕ → List ℕ → KnownLine → List HostLine

@@ -37,8 +37,8 @@ holds_key fingerprint line (Unreadable cause) = recovers_key fingerprint (key_re
 
 -- the record of a line that holds the key, as the whole review prints it; no other line has one
 abbrev pub key_record : List ℕ → RecordForm → Asking → List ℕ → List Held → ℕ × List ℕ → AuthLine → List ℕ
-key_record fingerprint form asking name earlier line said =
-    if holds_key fingerprint line.1 said then line_record form asking name earlier line said else []
+key_record fingerprint form asking name earlier line state =
+    if holds_key fingerprint line.1 state then line_record form asking name earlier line state else []
 
 -- the records of the lines that hold the key, after the lines of these entries
 abbrev pub key_records_of : List ℕ → RecordForm → Asking → List ℕ → List Held → List (ℕ × List ℕ) → List ℕ
@@ -51,9 +51,9 @@ key_records_of fingerprint form asking name earlier (line ∷ lines) =
 
 -- the counts of a line, and whether it holds the key: one that does not counts as a line alone
 abbrev pub key_counts : List ℕ → Asking → List Held → List ℕ → AuthLine → KeyCounts
-key_counts fingerprint asking earlier line said = record {
-  counts = if holds_key fingerprint line said then line_counts asking earlier said else line_alone;
-  stands = holds_key fingerprint line said;
+key_counts fingerprint asking earlier line state = record {
+  counts = if holds_key fingerprint line state then line_counts asking earlier state else line_alone;
+  stands = holds_key fingerprint line state;
 }
 
 abbrev pub no_key_counts : KeyCounts

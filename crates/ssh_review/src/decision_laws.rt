@@ -14,7 +14,7 @@ ghost use Rattle.ssh_offers.specs.LoginClaim.{LoginClaim};
 ghost use Rattle.ssh_trust.specs.Answer.{host_answer, login_answer};
 ghost use Rattle.ssh_trust.specs.LoginDecision.{login_decision, IsCandidate, line_verdict};
 ghost use Rattle.ssh_trust.specs.HostDecision.{host_decision};
-ghost use Rattle.ssh_review.specs.Grants.{FindsShared, Grants, IsBlind, IsRevoked};
+ghost use Rattle.ssh_review.specs.Grants.{FindsShared, Grants, IsRevocationUnreadable, IsRevoked};
 ghost use Rattle.ssh_entries.specs.AuthEntry.{AuthEntry};
 ghost use Rattle.ssh_entries.specs.AuthGrammar.{auth_line};
 ghost use Rattle.ssh_entries.specs.declared.auth_line.AuthLine.TheVariants.{Entry, Unreadable};
@@ -116,9 +116,9 @@ fn host_hashed_rule()
         → known_facts new ≡ hashed_facts (known_facts file) salts
         → IsRevoked (host_decision file claim vouched) ↔ IsRevoked (host_decision new claim vouched) }
     // A line that cannot be read and may revoke any key is in both files or in neither.
-    ensures blind { (file new : List ℕ) (salts : List (List ℕ)) (claim : HostClaim) (vouched : List SignedValue)
+    ensures unreadable_revocation { (file new : List ℕ) (salts : List (List ℕ)) (claim : HostClaim) (vouched : List SignedValue)
         → known_facts new ≡ hashed_facts (known_facts file) salts
-        → IsBlind (host_decision file claim vouched) ↔ IsBlind (host_decision new claim vouched) }
+        → IsRevocationUnreadable (host_decision file claim vouched) ↔ IsRevocationUnreadable (host_decision new claim vouched) }
     // The result of `hash` is such a file,
     ensures premises { (file new : List ℕ) (salts : List (List ℕ))
         → AllByRecursion (λ c. c < 256) file

@@ -75,23 +75,23 @@ fn push_sentence(out: &mut Vec<u8>, row: Row) -> Result<(), AllocError>
 }
 
 /// Appends the detail of a finding after a space, if it has one.
-pub(crate) fn push_detail(out: &mut Vec<u8>, said: &[u8]) -> Result<(), AllocError>
-    ensures { OnOk result (out.new.items ≡ out.old.items ++ detail_part said.now) }
+pub(crate) fn push_detail(out: &mut Vec<u8>, detail_text: &[u8]) -> Result<(), AllocError>
+    ensures { OnOk result (out.new.items ≡ out.old.items ++ detail_part detail_text.now) }
 {
-    if !said.is_empty() {
+    if !detail_text.is_empty() {
         out.push(b' ')?;
-        out.extend_from_slice(said)?;
+        out.extend_from_slice(detail_text)?;
     }
     Ok(())
 }
 
 /// Appends the start of a finding's line: its code and detail.
-fn push_finding_head(out: &mut Vec<u8>, code: &[u8], said: &[u8]) -> Result<(), AllocError>
-    ensures { OnOk result (out.new.items ≡ out.old.items ++ finding_head code.now said.now) }
+fn push_finding_head(out: &mut Vec<u8>, code: &[u8], detail_text: &[u8]) -> Result<(), AllocError>
+    ensures { OnOk result (out.new.items ≡ out.old.items ++ finding_head code.now detail_text.now) }
 {
     out.extend_from_slice(b"    ")?;
     out.extend_from_slice(code)?;
-    push_detail(out, said)?;
+    push_detail(out, detail_text)?;
     out.extend_from_slice(b": ")?;
     Ok(())
 }
@@ -100,8 +100,8 @@ fn push_finding_head(out: &mut Vec<u8>, code: &[u8], said: &[u8]) -> Result<(), 
 fn push_row(alloc: Global, out: &mut Vec<u8>, row: Row) -> Result<(), AllocError>
     ensures { OnOk result (out.new.items ≡ out.old.items ++ row_line (row_seen row)) }
 {
-    let said = detail(alloc, row)?;
-    push_finding_head(out, row.code.text(), &said)?;
+    let detail_text = detail(alloc, row)?;
+    push_finding_head(out, row.code.text(), &detail_text)?;
     push_sentence(out, row)?;
     out.push(b'\n')?;
     Ok(())
@@ -127,10 +127,10 @@ pub(crate) fn push_findings<F: Printed>(
 fn push_object(alloc: Global, out: &mut Vec<u8>, row: Row) -> Result<(), AllocError>
     ensures { OnOk result (out.new.items ≡ out.old.items ++ row_object (row_seen row)) }
 {
-    let said = detail(alloc, row)?;
+    let detail_text = detail(alloc, row)?;
     out.extend_from_slice(b"{\"code\":")?;
     push_json_text(out, row.code.text())?;
-    push_text_field(out, b"detail", &said)?;
+    push_text_field(out, b"detail", &detail_text)?;
     out.push(b'}')?;
     Ok(())
 }
@@ -176,9 +176,9 @@ fn push_objects_end<F: Printed>(
 fn push_words(alloc: Global, out: &mut Vec<u8>, row: Row) -> Result<(), AllocError>
     ensures { OnOk result (out.new.items ≡ out.old.items ++ row_words (row_seen row)) }
 {
-    let said = detail(alloc, row)?;
+    let detail_text = detail(alloc, row)?;
     out.extend_from_slice(row.code.text())?;
-    push_detail(out, &said)?;
+    push_detail(out, &detail_text)?;
     Ok(())
 }
 

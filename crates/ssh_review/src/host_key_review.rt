@@ -21,7 +21,7 @@ use crate::distinct_keys::DistinctKeys;
 use crate::end::{FileFault, Form};
 use crate::fields::print_of;
 use crate::host_review::{
-    push_blind_line, push_entry_line, push_revoked_line, push_unreadable_line,
+    push_entry_line, push_revoked_line, push_unreadable_line, push_unreadable_revocation,
 };
 use crate::json_record::LineRef;
 use crate::key_review::{KeyCounts, KeyReviewed, recovers_key, review_key_fault};
@@ -130,7 +130,7 @@ fn push_key_revoked(
 }
 
 /// Appends the record of an unreadable revocation, if it holds the key.
-fn push_key_blind(
+fn push_key_unreadable_revocation(
     alloc: Global,
     form: RecordForm,
     asked: &ReviewOptions<'_>,
@@ -148,7 +148,7 @@ fn push_key_blind(
     let held = known_held_key(alloc, line)?;
     let stands = recovers_key(held, wanted);
     if stands {
-        let counts = push_blind_line(alloc, form, asked, place, line, out)?;
+        let counts = push_unreadable_revocation(alloc, form, asked, place, line, out)?;
         Ok(KeyCounts { counts, stands })
     } else {
         Ok(KeyCounts::OTHER_LINE)
@@ -214,7 +214,7 @@ fn push_key_line(
             alloc, form, asked, place, line, bytes, wanted, earlier, out,
         ),
         KnownLineView::RevokedUnreadable => {
-            push_key_blind(alloc, form, asked, place, line, wanted, out)
+            push_key_unreadable_revocation(alloc, form, asked, place, line, wanted, out)
         }
         KnownLineView::Unreadable(cause) => push_key_unreadable(
             alloc, form, asked, place, line, *cause, wanted, out,

@@ -226,7 +226,7 @@ fn push_bare_line(
 
 /// Appends the record of an unreadable revocation. It may revoke any key, so here it denies every
 /// host.
-pub(crate) fn push_blind_line(
+pub(crate) fn push_unreadable_revocation(
     alloc: Global,
     form: RecordForm,
     asked: &ReviewOptions<'_>,
@@ -307,7 +307,9 @@ fn push_line(
         KnownLineView::Revoked(bytes) => {
             push_revoked_line(alloc, form, asked, place, line, bytes, earlier, out)
         }
-        KnownLineView::RevokedUnreadable => push_blind_line(alloc, form, asked, place, line, out),
+        KnownLineView::RevokedUnreadable => push_unreadable_revocation(
+            alloc, form, asked, place, line, out,
+        ),
         KnownLineView::Unreadable(cause) => {
             push_unreadable_line(alloc, form, asked, place, line, *cause, out)
         }

@@ -130,15 +130,20 @@ pub fn readable_auth(alloc: Global, file: &[u8]) -> Result<Vec<u8>, RewriteError
 }
 
 /// Appends the line of a line that is left out, by a code and its detail.
-fn push_left_out(out: &mut Vec<u8>, number: u64, code: &[u8], said: &[u8]) -> Result<(), AllocError>
+fn push_left_out(
+    out: &mut Vec<u8>,
+    number: u64,
+    code: &[u8],
+    detail_text: &[u8],
+) -> Result<(), AllocError>
     ensures { OnOk result
-        (out.new.items ≡ out.old.items ++ left_out_line number code.now said.now) }
+        (out.new.items ≡ out.old.items ++ left_out_line number code.now detail_text.now) }
 {
     out.extend_from_slice(b"ssh_audit: line ")?;
     push_number(out, number)?;
     out.extend_from_slice(b" left out: ")?;
     out.extend_from_slice(code)?;
-    push_detail(out, said)?;
+    push_detail(out, detail_text)?;
     out.push(b'\n')?;
     Ok(())
 }
@@ -147,8 +152,8 @@ fn push_row(alloc: Global, out: &mut Vec<u8>, number: u64, row: Row) -> Result<(
     ensures { OnOk result
         (out.new.items ≡ out.old.items ++ left_out_row number (row_seen row)) }
 {
-    let said = detail(alloc, row)?;
-    push_left_out(out, number, row.code.text(), &said)
+    let detail_text = detail(alloc, row)?;
+    push_left_out(out, number, row.code.text(), &detail_text)
 }
 
 fn push_findings(

@@ -1,5 +1,5 @@
 -- A file with hashed names is read as the old file is, with one entry for each hashed name.
-use Rattle.ssh_rewriting.proofs.Imports.{◌≡◌, ℕ, ◌<◌, ◌≤◌, nat_le, List, [], ◌∷◌, ◌++◌, length, map, drop, refl, ap, ◌∙◌, zero, suc, arith, Option, Some, None, slice_index_or, zip, flat_map, AllByRecursion, and_parts, leb-true, map-append, lines_of, line_limit, HasNoNewline, lines_of-whole, IsTwentyBytes, hidden, AreBytes, AreBytes-back, AreBytes-front, IsBytes-from_all, KnownEntry, KnownLine, SpellsKnown, known_line, known_line-spells, known_facts, are_plain, hashed_facts, hashed_file, hashed_length, hashed_line, hashed_lines, hidden_entry, hidden_names, lines_in_place, lower_names, said_in_place}
+use Rattle.ssh_rewriting.proofs.Imports.{◌≡◌, ℕ, ◌<◌, ◌≤◌, nat_le, List, [], ◌∷◌, ◌++◌, length, map, drop, refl, ap, ◌∙◌, zero, suc, arith, Option, Some, None, slice_index_or, zip, flat_map, AllByRecursion, and_parts, leb-true, map-append, lines_of, line_limit, HasNoNewline, lines_of-whole, IsTwentyBytes, hidden, AreBytes, AreBytes-back, AreBytes-front, IsBytes-from_all, KnownEntry, KnownLine, SpellsKnown, known_line, known_line-spells, known_facts, are_plain, hashed_facts, hashed_file, hashed_length, hashed_line, hashed_lines, hidden_entry, hidden_names, lines_in_place, lower_names, state_in_place}
 use Rattle.ssh_entries.specs.declared.known_line.KnownLine.TheVariants as known
 use Rattle.ssh_rewriting.proofs.FileLemmas.{AreGood, IsGood, good}
 use Rattle.ssh_rewriting.proofs.HiddenLemmas.{hidden-is}
@@ -59,7 +59,7 @@ pairs-none entry line h (salt ∷ salts) [] = tt
 pairs-none entry line h (salt ∷ salts) (name ∷ names) = (hashed-none entry line salt name h.spelled h.none, pairs-none entry line h salts names)
 
 place-says : (o : Option KnownEntry) (line : List ℕ) (salts : List (List ℕ)) → hidden_entry (known_line line) ≡ o → IsGood line → AreSalts salts
-    → map known_line (lines_in_place o line salts) ≡ said_in_place o (known_line line) salts
+    → map known_line (lines_in_place o line salts) ≡ state_in_place o (known_line line) salts
 place-says None line salts e g s = refl
 place-says (Some entry) line salts e g s = pairs-say entry line (has-room line entry g e) salts (lower_names entry.names) s
 
@@ -81,7 +81,7 @@ lines-say (line ∷ lines) salts g s =
     let here = lines_in_place (hidden_entry (known_line line)) line salts in
     map-append known_line here (hashed_lines lines (drop n salts))
     ∙ ap (λ ls. ls ++ map known_line (hashed_lines lines (drop n salts))) (place-says (hidden_entry (known_line line)) line salts refl g.0 s)
-    ∙ ap (λ ls. said_in_place (hidden_entry (known_line line)) (known_line line) salts ++ ls) (lines-say lines (drop n salts) g.1 (salts-drop n salts s))
+    ∙ ap (λ ls. state_in_place (hidden_entry (known_line line)) (known_line line) salts ++ ls) (lines-say lines (drop n salts) g.1 (salts-drop n salts s))
 
 lines-none : (lines salts : List (List ℕ)) → AreGood lines → AllByRecursion HasNoNewline (hashed_lines lines salts)
 lines-none [] salts g = tt

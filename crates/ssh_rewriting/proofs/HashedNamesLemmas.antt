@@ -1,5 +1,5 @@
 -- A file whose names are hidden names what the file names, and nothing else but for a hash that two names share.
-use Rattle.ssh_rewriting.proofs.Imports.{◌≡◌, ◌⊎◌, ℕ, ◌≤◌, true, false, nat_le, inl, inr, List, [], ◌∷◌, ◌++◌, length, map, drop, bytes_eq, refl, sym, ap, subst, ◌∙◌, arith, length-append, length-drop, Option, Some, None, zip, flat_map, str_to_ascii_lowercase, and_parts, cases_Bool, bytes_eq-Decides, line_limit, lines_of, NamesHost, hidden, lookup_name, name_hash, AreBytes, KnownEntry, KnownLine, known_line, known_facts, are_plain, hashed_facts, hashed_file, hashed_length, hidden_entry, hidden_names, lower_names, names_hidden, names_of_hidden, said_in_place, AddsNoName, IsNamed, KeepsNames, SharesHash}
+use Rattle.ssh_rewriting.proofs.Imports.{◌≡◌, ◌⊎◌, ℕ, ◌≤◌, true, false, nat_le, inl, inr, List, [], ◌∷◌, ◌++◌, length, map, drop, bytes_eq, refl, sym, ap, subst, ◌∙◌, arith, length-append, length-drop, Option, Some, None, zip, flat_map, str_to_ascii_lowercase, and_parts, cases_Bool, bytes_eq-Decides, line_limit, lines_of, NamesHost, hidden, lookup_name, name_hash, AreBytes, KnownEntry, KnownLine, known_line, known_facts, are_plain, hashed_facts, hashed_file, hashed_length, hidden_entry, hidden_names, lower_names, names_hidden, names_of_hidden, state_in_place, AddsNoName, IsNamed, KeepsNames, SharesHash}
 use Rattle.ssh_entries.specs.declared.known_line.KnownLine.TheVariants as known
 use Rattle.ssh_rewriting.proofs.HiddenLemmas.{hidden-is}
 use Rattle.ssh_rewriting.proofs.HashedFactsLemmas.{AreSalts, hashed-says, said}
@@ -30,7 +30,7 @@ pairs-have entry name (salt ∷ salts) (n ∷ names) enough (inr h) =
     (r.0, inr r.1)
 
 place-keeps : (o : Option KnownEntry) (entry : KnownEntry) (salts : List (List ℕ)) → length (names_of_hidden o) ≤ length salts
-    → Stays o entry (said_in_place o (known.Entry entry) salts)
+    → Stays o entry (state_in_place o (known.Entry entry) salts)
 place-keeps None entry salts enough = inl refl
 place-keeps (Some found) entry salts enough = λ name m. pairs-have found name salts (lower_names found.names) enough m
 
@@ -38,7 +38,7 @@ first-keeps : (entry : KnownEntry) (facts : List KnownLine) (salts : List (List 
     → Stays (hidden_entry (known.Entry entry)) entry (hashed_facts (known.Entry entry ∷ facts) salts)
 first-keeps entry facts salts enough =
     let o = hidden_entry (known.Entry entry) in
-    let here = said_in_place o (known.Entry entry) salts in
+    let here = state_in_place o (known.Entry entry) salts in
     let rest = hashed_facts facts (drop (length (hidden_names (known.Entry entry))) salts) in
     stays-more o entry here (here ++ rest) (λ x m. mem-left here rest x m)
     (place-keeps o entry salts (omega (arith, enough, length-append (hidden_names (known.Entry entry)) (flat_map hidden_names facts))))
@@ -51,7 +51,7 @@ keeps (line ∷ facts) salts entry enough (inl is) =
     (first-keeps entry facts salts (subst (λ l. length (flat_map hidden_names (l ∷ facts)) ≤ length salts) is enough))
 keeps (line ∷ facts) salts entry enough (inr m) =
     let n = length (hidden_names line) in
-    let here = said_in_place (hidden_entry line) line salts in
+    let here = state_in_place (hidden_entry line) line salts in
     let rest = hashed_facts facts (drop n salts) in
     let left : length (flat_map hidden_names facts) ≤ length (drop n salts) =
     omega (arith, enough, length-append (hidden_names line) (flat_map hidden_names facts), length-drop n salts) in
@@ -102,7 +102,7 @@ pair-of entry (salt ∷ salts) (name ∷ names) made (inr h) =
     record { salt = p.salt; is_salt = inr p.is_salt; name = p.name; is_name = inr p.is_name; is = p.is }
 
 place-adds : (o : Option KnownEntry) (line : KnownLine) (salts : List (List ℕ)) (made : KnownEntry) → hidden_entry line ≡ o
-    → Mem (said_in_place o line salts) (known.Entry made) → (line ≡ known.Entry made) ⊎ Made (line ∷ []) salts made
+    → Mem (state_in_place o line salts) (known.Entry made) → (line ≡ known.Entry made) ⊎ Made (line ∷ []) salts made
 place-adds None line salts made e (inl is) = inl is
 place-adds None line salts made e (inr h) = absurd h
 place-adds (Some found) line salts made e h =
@@ -124,7 +124,7 @@ adds : (facts : List KnownLine) (salts : List (List ℕ)) (made : KnownEntry) �
 adds [] salts made h = absurd h
 adds (line ∷ facts) salts made h =
     let n = length (hidden_names line) in
-    elim (mem-cases (said_in_place (hidden_entry line) line salts) (hashed_facts facts (drop n salts)) (known.Entry made) h) [
+    elim (mem-cases (state_in_place (hidden_entry line) line salts) (hashed_facts facts (drop n salts)) (known.Entry made) h) [
       | inl here ↦ elim (place-adds (hidden_entry line) line salts made refl here) [
         | inl is ↦ inl (inl is)
         | inr m ↦ inr (made-more (line ∷ []) (line ∷ facts) salts salts made (λ x k. mem-left (line ∷ []) facts x k) (λ x k. k) m)

@@ -36,7 +36,7 @@ pub use Rattle.ssh_rewriting.specs.Bounded.{bounded_lines, bounded_line}
 pub use Rattle.ssh_rewriting.specs.Canonical.{comment_part, marker_part, option_text, key_text, options_part, line_with_names, after_comma, canonical_auth, canonical_known}
 pub use Rattle.ssh_rewriting.specs.CanonicalFile.{file_with, auth_written, known_written, auth_or_same, known_or_same, canonical_auth_file, canonical_known_file}
 pub use Rattle.ssh_rewriting.specs.Facts.{known_facts, auth_facts}
-pub use Rattle.ssh_rewriting.specs.HashedFile.{names_hidden, hidden_entry, hashed_file, hashed_lines, are_plain, hashed_length, hashed_line, lower_names, hidden_names, lines_in_place, hashed_facts, said_in_place, names_of_hidden, is_hidden, is_pattern_byte}
+pub use Rattle.ssh_rewriting.specs.HashedFile.{names_hidden, hidden_entry, hashed_file, hashed_lines, are_plain, hashed_length, hashed_line, lower_names, hidden_names, lines_in_place, hashed_facts, state_in_place, names_of_hidden, is_hidden, is_pattern_byte}
 pub use Rattle.ssh_rewriting.specs.HashedNames.{AddsNoName, KeepsNames, IsNamed, SharesHash}
 pub use Rattle.ssh_rewriting.specs.Samples.{auth_samples_written, known_samples_written, auth_files_written, hashed_files_written, known_files_written}
 pub use Rattle.ssh_rewriting.specs.declared.rewrite.RewriteError.TheVariants.{TooLong}

@@ -56,7 +56,7 @@ names_of_hidden None = []
 names_of_hidden (Some entry) = lower_names entry.names
 
 abbrev pub hidden_names : KnownLine → List (List ℕ)
-hidden_names said = names_of_hidden (hidden_entry said)
+hidden_names state = names_of_hidden (hidden_entry state)
 
 -- all names of a file that are hashed, in their order: as many salts are needed
 abbrev pub names_hidden : List ℕ → List (List ℕ)
@@ -83,12 +83,12 @@ hashed_file file salts = with_newlines (hashed_lines (lines_of file) salts)
 -- ---- what the new file is read as
 
 -- what replaces the fact of a line: a fact for each hashed name, or the same fact
-abbrev pub said_in_place : Option KnownEntry → KnownLine → List (List ℕ) → List KnownLine
-said_in_place None said salts = said ∷ []
-said_in_place (Some entry) said salts =
+abbrev pub state_in_place : Option KnownEntry → KnownLine → List (List ℕ) → List KnownLine
+state_in_place None state salts = state ∷ []
+state_in_place (Some entry) state salts =
     map (λ x. known.Entry (record entry { names = hidden x.0 x.1 })) (zip salts (lower_names entry.names))
 
 abbrev pub hashed_facts : List KnownLine → List (List ℕ) → List KnownLine
 hashed_facts [] salts = []
-hashed_facts (said ∷ lines) salts =
-    said_in_place (hidden_entry said) said salts ++ hashed_facts lines (drop (length (hidden_names said)) salts)
+hashed_facts (state ∷ lines) salts =
+    state_in_place (hidden_entry state) state salts ++ hashed_facts lines (drop (length (hidden_names state)) salts)

@@ -111,8 +111,8 @@ pub record AreRights (e : AuthEntry) (offer : Offer) (rights : Rights) : Type 0 
 
 -- a right after these options, by the last that turns it on or off, and by its value before them
 abbrev pub last_word : Right → Bool → List AuthOption → Bool
-last_word x said [] = said
-last_word x said (o ∷ options) = last_word x (unwrap_or (effect_on x o) said) options
+last_word x value [] = value
+last_word x value (o ∷ options) = last_word x (unwrap_or (effect_on x o) value) options
 
 abbrev pub is_on : Right → List AuthOption → Bool
 is_on x options = last_word x true options

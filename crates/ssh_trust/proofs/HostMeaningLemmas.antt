@@ -1,5 +1,5 @@
 -- A decision has the meaning that is stated for granted and denied hosts' keys.
-use Rattle.ssh_trust.proofs.Imports.{◌≡◌, ◌∙◌, ◌+◌, ◌-◌, ◌<◌, ◌⊎◌, ◌||◌, cond, ℕ, zero, suc, Bool, true, false, List, [], ◌∷◌, map, Option, Some, None, ap, subst, sym, refl, inl, inr, arith, option_map, slice_get, Decides, bytes_eq, bytes_eq-Decides, key_blob, KnownEntry, KnownLine, Blank, Comment, Entry, Revoked, RevokedUnreadable, lines_of, Blind, SpellsKnown, known_line-spelled, known_line-spells, blind-read, read-blind, read-revokes, revokes-read, lines_of-are, Signed, host_evidence, HostClaim, Offer, certified, plain, first_unvouched, none_unvouched, all_vouched, Mismatch, Reason, Admits, AdmitsHost, host_mismatch, IsOwn, is_key_or_signer, may_revoke, revokes_offer, verdict_by, host_verdict, host_where_none, none_where_host, candidate_of, reasons_of, HoldsAt, HostMeans, IsLeast, RevokesOwn, host_decision_by, revocation_cause, first_number, host_line_verdict, is_blind, admitting_number, revokes_by}
+use Rattle.ssh_trust.proofs.Imports.{◌≡◌, ◌∙◌, ◌+◌, ◌-◌, ◌<◌, ◌⊎◌, ◌||◌, cond, ℕ, zero, suc, Bool, true, false, List, [], ◌∷◌, map, Option, Some, None, ap, subst, sym, refl, inl, inr, arith, option_map, slice_get, Decides, bytes_eq, bytes_eq-Decides, key_blob, KnownEntry, KnownLine, Blank, Comment, Entry, Revoked, RevokedUnreadable, lines_of, IsUnreadableRevocation, SpellsKnown, known_line-spelled, known_line-spells, unreadable_revocation-read, read-unreadable_revocation, read-revokes, revokes-read, lines_of-are, Signed, host_evidence, HostClaim, Offer, certified, plain, first_unvouched, none_unvouched, all_vouched, Mismatch, Reason, Admits, AdmitsHost, host_mismatch, IsOwn, is_key_or_signer, may_revoke, revokes_offer, verdict_by, host_verdict, host_where_none, none_where_host, candidate_of, reasons_of, HoldsAt, HostMeans, IsLeast, RevokesOwn, host_decision_by, revocation_cause, first_number, host_line_verdict, is_unreadable_revocation, admitting_number, revokes_by}
 use Rattle.ssh_entries.specs.declared.known_line.KnownLine.TheVariants.{Unreadable}
 use Rattle.ssh_entries.specs.KnownGrammar.{known_line}
 use Rattle.ssh_trust.specs.HostDecision.{host_decision}
@@ -153,24 +153,24 @@ revokes-decides claim line bytes = (
   λ h. ap (revokes_offer claim.offer) (revokes-read line h.0 h.1) ∙ (own-decides claim.offer h.0).1 h.2,
 )
 
-blinding : (line : List ℕ) (l : KnownLine) → known_line line ≡ l → may_revoke l ≡ true → Blind line
-blinding line Blank e h = cc
-blinding line Comment e h = cc
-blinding line (Entry entry) e h = cc
-blinding line (Unreadable why) e h = cc
-blinding line (Revoked blob) e h = cc
-blinding line RevokedUnreadable e h = read-blind line e
+unreadable_revocation-found : (line : List ℕ) (l : KnownLine) → known_line line ≡ l → may_revoke l ≡ true → IsUnreadableRevocation line
+unreadable_revocation-found line Blank e h = cc
+unreadable_revocation-found line Comment e h = cc
+unreadable_revocation-found line (Entry entry) e h = cc
+unreadable_revocation-found line (Unreadable why) e h = cc
+unreadable_revocation-found line (Revoked blob) e h = cc
+unreadable_revocation-found line RevokedUnreadable e h = read-unreadable_revocation line e
 
-pub unreadable_revocation-decides : DecidesLines is_blind Blind
+pub unreadable_revocation-decides : DecidesLines is_unreadable_revocation IsUnreadableRevocation
 unreadable_revocation-decides line bytes = (
-  λ h. blinding line (known_line line) refl h,
-  λ h. ap may_revoke (blind-read line bytes h),
+  λ h. unreadable_revocation-found line (known_line line) refl h,
+  λ h. ap may_revoke (unreadable_revocation-read line bytes h),
 )
 
 -- ---- the decision
 
 trusts : (file : List ℕ) (claim : HostClaim) (vouched : List Signed) (reasons : List (ℕ × Reason)) → AreBytes file
-    → first_number (revokes_by claim) 1 (lines_of file) ≡ None → first_number is_blind 1 (lines_of file) ≡ None
+    → first_number (revokes_by claim) 1 (lines_of file) ≡ None → first_number is_unreadable_revocation 1 (lines_of file) ≡ None
     → (c : Option (ℕ × KnownEntry)) → candidate_of (map (host_line_verdict claim) (lines_of file)) ≡ c
     → (u : Option ℕ) → first_unvouched vouched (host_evidence claim) ≡ u
     → HostMeans file claim vouched (host_decision_by None (option_map admitting_number c) u reasons (host_evidence claim))
@@ -191,7 +191,7 @@ trusts file claim vouched reasons bytes r b (Some found) c None v = (
   record {
     candidate = candidate-is (host_line_verdict claim) (host-judges claim) file found.0 found.1 bytes c;
     unrevoked = none-at (revokes_by claim) (RevokesOwn claim.offer) (revokes-decides claim) file bytes r;
-    no_unreadable_revocation = none-at is_blind Blind unreadable_revocation-decides file bytes b;
+    no_unreadable_revocation = none-at is_unreadable_revocation IsUnreadableRevocation unreadable_revocation-decides file bytes b;
     all_vouched = none_unvouched vouched (host_evidence claim) v;
   },
   refl,
@@ -200,7 +200,7 @@ trusts file claim vouched reasons bytes r b (Some found) c None v = (
 
 means-by : (file : List ℕ) (claim : HostClaim) (vouched : List Signed) (reasons : List (ℕ × Reason)) → AreBytes file
     → (revoked : Option ℕ) → first_number (revokes_by claim) 1 (lines_of file) ≡ revoked
-    → (unreadable_revocation : Option ℕ) → first_number is_blind 1 (lines_of file) ≡ unreadable_revocation
+    → (unreadable_revocation : Option ℕ) → first_number is_unreadable_revocation 1 (lines_of file) ≡ unreadable_revocation
     → (u : Option ℕ) → first_unvouched vouched (host_evidence claim) ≡ u
     → HostMeans file claim vouched (host_decision_by (revocation_cause revoked unreadable_revocation)
     (option_map admitting_number (candidate_of (map (host_line_verdict claim) (lines_of file)))) u reasons (host_evidence claim))
@@ -208,7 +208,7 @@ means-by file claim vouched reasons bytes (Some n) r unreadable_revocation b u v
     let least = least-at (revokes_by claim) (RevokesOwn claim.offer) (revokes-decides claim) file bytes n r in
     (λ i e grant. grant.unrevoked n least.holds, least, refl)
 means-by file claim vouched reasons bytes None r (Some n) b u v =
-    let least = least-at is_blind Blind unreadable_revocation-decides file bytes n b in
+    let least = least-at is_unreadable_revocation IsUnreadableRevocation unreadable_revocation-decides file bytes n b in
     (λ i e grant. grant.no_unreadable_revocation n least.holds, least, refl)
 means-by file claim vouched reasons bytes None r None b u v = trusts file claim vouched reasons bytes r b _ refl u v
 

@@ -1,5 +1,5 @@
 -- The scan of a known_hosts file, line by line.
-use Rattle.ssh_trust.proofs.Imports.{◌≡◌, ◌∙◌, ◌+◌, ℕ, Bool, true, false, cond, List, [], ◌∷◌, map, Option, Some, None, ap, refl, sym, is_some, KnownEntry, KnownLine, LineVerdict, may_revoke, revokes_offer, host_verdict, lines_of, numbered, HostClaim, HostScan, Scan, scan_of, scan_verdict, empty_host_scan, first_number, first_so_far, host_line_verdict, host_scan_line, is_blind, admitting_number, revokes_by}
+use Rattle.ssh_trust.proofs.Imports.{◌≡◌, ◌∙◌, ◌+◌, ℕ, Bool, true, false, cond, List, [], ◌∷◌, map, Option, Some, None, ap, refl, sym, is_some, KnownEntry, KnownLine, LineVerdict, may_revoke, revokes_offer, host_verdict, lines_of, numbered, HostClaim, HostScan, Scan, scan_of, scan_verdict, empty_host_scan, first_number, first_so_far, host_line_verdict, host_scan_line, is_unreadable_revocation, admitting_number, revokes_by}
 use Rattle.ssh_entries.specs.KnownGrammar.{known_line}
 use Rattle.ssh_trust.specs.Scan.{after_lines}
 use Rattle.ssh_trust.specs.HostScan.{host_scan_of}
@@ -30,7 +30,7 @@ first-numbered holds n (line ∷ lines) = first-by holds n lines (numbered (n + 
 parts : (claim : HostClaim) (s : HostScan) (xs : List (ℕ × List ℕ)) → after_lines (host_scan_line claim) s xs ≡ record {
   admission = scanned admitting_number (host_line_verdict claim) s.admission xs;
   revoked = first_after s.revoked (revokes_by claim) xs;
-  unreadable_revocation = first_after s.unreadable_revocation is_blind xs;
+  unreadable_revocation = first_after s.unreadable_revocation is_unreadable_revocation xs;
 }
 unfolding after_lines first_after
 parts claim s [] = refl
@@ -44,12 +44,12 @@ pub host_scanned-all : (claim : HostClaim) (file : List ℕ) → after_lines (ho
 unfolding host_scan_of host_scan
 host_scanned-all claim file =
     parts claim empty_host_scan (numbered 1 (lines_of file))
-    ∙ ap (λ (a : Scan ℕ). host_scan a (first_after None (revokes_by claim) (numbered 1 (lines_of file))) (first_after None is_blind (numbered 1 (lines_of file))))
+    ∙ ap (λ (a : Scan ℕ). host_scan a (first_after None (revokes_by claim) (numbered 1 (lines_of file))) (first_after None is_unreadable_revocation (numbered 1 (lines_of file))))
     (scanned-scan_of admitting_number (host_line_verdict claim) file)
-    ∙ ap (λ (r : Option ℕ). host_scan (scan_of admitting_number (map (host_line_verdict claim) (lines_of file))) r (first_after None is_blind (numbered 1 (lines_of file))))
+    ∙ ap (λ (r : Option ℕ). host_scan (scan_of admitting_number (map (host_line_verdict claim) (lines_of file))) r (first_after None is_unreadable_revocation (numbered 1 (lines_of file))))
     (first-numbered (revokes_by claim) 1 (lines_of file))
     ∙ ap (λ (b : Option ℕ). host_scan (scan_of admitting_number (map (host_line_verdict claim) (lines_of file))) (first_number (revokes_by claim) 1 (lines_of file)) b)
-    (first-numbered is_blind 1 (lines_of file))
+    (first-numbered is_unreadable_revocation 1 (lines_of file))
 
 -- ---- one more line, as it is read
 

@@ -12,11 +12,11 @@ pub use Rattle.ssh_keys.specs.declared.kind.KeyKind.TheVariants.{Rsa, P256, P384
 pub use Rattle.ssh_entries.proofs.AuthLemmas.{auth_line-spelled}
 pub use Rattle.ssh_entries.proofs.ReadAuth.{auth_line-spells}
 pub use Rattle.ssh_entries.proofs.ReadKnown.{known_line-spells, known_line-spelled}
-pub use Rattle.ssh_entries.proofs.RevokedLemmas.{blind-read, read-blind, read-revokes, revokes-read}
+pub use Rattle.ssh_entries.proofs.RevokedLemmas.{unreadable_revocation-read, read-unreadable_revocation, read-revokes, revokes-read}
 pub use Rattle.ssh_entries.specs.AuthEntry.{AuthEntry}
 pub use Rattle.ssh_entries.specs.AuthGrammar.{SpellsEntry, SpellsOptions}
 pub use Rattle.ssh_entries.specs.KnownEntry.{KnownEntry}
-pub use Rattle.ssh_entries.specs.KnownGrammar.{Blind, SpellsKnown}
+pub use Rattle.ssh_entries.specs.KnownGrammar.{IsUnreadableRevocation, SpellsKnown}
 pub use Rattle.ssh_entries.specs.KnownSeen.{known_seen}
 pub use Rattle.ssh_entries.specs.Names.{names_text, Names, Patterns, Hashed, list_of}
 pub use Rattle.ssh_entries.specs.declared.auth_line.AuthLine.{AuthLine}
@@ -70,7 +70,7 @@ pub use Rattle.ssh_trust.specs.Candidate.{candidate_of, first_admitted, reasons_
 pub use Rattle.ssh_trust.specs.FileLines.{IsHandedLine, StandsAt}
 pub use Rattle.ssh_trust.specs.Findings.{HasFound, IsKept}
 pub use Rattle.ssh_trust.specs.HostDecision.{HostMeans, RevokesOwn, host_decision_by, revocation_cause, host_decision_of, HoldsAt, IsLeast, IsHostCandidate}
-pub use Rattle.ssh_trust.specs.HostScan.{host_line_verdict, admitting_number, first_number, is_blind, revokes_by, empty_host_scan, host_scan_line, first_so_far}
+pub use Rattle.ssh_trust.specs.HostScan.{host_line_verdict, admitting_number, first_number, is_unreadable_revocation, revokes_by, empty_host_scan, host_scan_line, first_so_far}
 pub use Rattle.ssh_trust.specs.LoginDecision.{line_verdict, decision_of, LoginMeans, candidate_at, IsCandidate, cause_by, decision_by, verdicts, IsGrant, login_scan_line}
 pub use Rattle.ssh_trust.specs.Reads.{HoldsOfRead, AnswersReader, IsFedBy, StopsBy, piece_size}
 pub use Rattle.ssh_trust.specs.Samples.{host_causes_in_order, login_causes_in_order, file_at_limit, first_admitted_found, reasons_listed}

@@ -1,5 +1,5 @@
 -- What the cause and the reasons of a denial mean.
-use Rattle.ssh_trust.proofs.Imports.{◌≡◌, ◌∙◌, ◌↔◌, ◌⊎◌, ◌+◌, ◌-◌, ◌≤◌, ◌<◌, not, cond, ℕ, zero, suc, Bool, true, false, List, [], ◌∷◌, length, map, take, Option, Some, None, ap, subst, sym, refl, inl, inr, arith, Contains, option_map, slice_get, position_or_len, cases_Bool, ltb-true, AuthEntry, AuthLine, KnownEntry, KnownLine, Blind, lines_of, auth_line-spelled, auth_line-spells, known_line-spelled, known_line-spells, lines_of-are, Signed, host_evidence, login_evidence, HostClaim, LoginClaim, Has, first_unvouched, is_vouched, any-has, has-any, Mismatch, Listed, OtherHost, OtherKey, Reason, LineVerdict, Admits, Skips, login_mismatch, host_mismatch, login_verdict, verdict_by, host_verdict, IsFirstAdmitted, admits, before_candidate, candidate_of, first_admitted, reasons_from, reasons_of, with_reason, IsCandidate, candidate_at, cause_by, decision_by, decision_of, line_verdict, verdicts, AreReasons, HostTells, HostReason, IsPassedOver, IsFirstUnvouched, LoginTells, LoginReason, RisesFrom, IsHostCandidate, RevokesOwn, host_decision_by, revocation_cause, first_number, host_line_verdict, is_blind, admitting_number, revokes_by, TouchSuffices, VerificationSuffices, touch-is, verification-is}
+use Rattle.ssh_trust.proofs.Imports.{◌≡◌, ◌∙◌, ◌↔◌, ◌⊎◌, ◌+◌, ◌-◌, ◌≤◌, ◌<◌, not, cond, ℕ, zero, suc, Bool, true, false, List, [], ◌∷◌, length, map, take, Option, Some, None, ap, subst, sym, refl, inl, inr, arith, Contains, option_map, slice_get, position_or_len, cases_Bool, ltb-true, AuthEntry, AuthLine, KnownEntry, KnownLine, IsUnreadableRevocation, lines_of, auth_line-spelled, auth_line-spells, known_line-spelled, known_line-spells, lines_of-are, Signed, host_evidence, login_evidence, HostClaim, LoginClaim, Has, first_unvouched, is_vouched, any-has, has-any, Mismatch, Listed, OtherHost, OtherKey, Reason, LineVerdict, Admits, Skips, login_mismatch, host_mismatch, login_verdict, verdict_by, host_verdict, IsFirstAdmitted, admits, before_candidate, candidate_of, first_admitted, reasons_from, reasons_of, with_reason, IsCandidate, candidate_at, cause_by, decision_by, decision_of, line_verdict, verdicts, AreReasons, HostTells, HostReason, IsPassedOver, IsFirstUnvouched, LoginTells, LoginReason, RisesFrom, IsHostCandidate, RevokesOwn, host_decision_by, revocation_cause, first_number, host_line_verdict, is_unreadable_revocation, admitting_number, revokes_by, TouchSuffices, VerificationSuffices, touch-is, verification-is}
 use Rattle.ssh_entries.specs.declared.auth_line.AuthLine.TheVariants as auth
 use Rattle.ssh_entries.specs.declared.known_line.KnownLine.TheVariants as known
 use Rattle.ssh_entries.specs.AuthGrammar.{auth_line}
@@ -321,24 +321,24 @@ host-reasons : (file : List ℕ) (claim : HostClaim) → AreBytes file
 host-reasons file claim bytes = are-reasons (host_line_verdict claim) (host-judges claim) (host-tells claim) file bytes
 
 host-trust-by : (file : List ℕ) (claim : HostClaim) (vouched : List Signed) → AreBytes file
-    → first_number (revokes_by claim) 1 (lines_of file) ≡ None → first_number is_blind 1 (lines_of file) ≡ None
+    → first_number (revokes_by claim) 1 (lines_of file) ≡ None → first_number is_unreadable_revocation 1 (lines_of file) ≡ None
     → (c : Option (ℕ × KnownEntry)) → candidate_of (host_verdicts claim file) ≡ c
     → (u : Option ℕ) → first_unvouched vouched (host_evidence claim) ≡ u
     → HostTells file claim vouched (host_decision_by None (option_map admitting_number c) u (reasons_of (host_verdicts claim file)) (host_evidence claim))
 host-trust-by file claim vouched bytes r b None c u v =
     let unrevoked = none-at (revokes_by claim) (RevokesOwn claim.offer) (revokes-decides claim) file bytes r in
-    let no_unreadable_revocation = none-at is_blind Blind unreadable_revocation-decides file bytes b in
+    let no_unreadable_revocation = none-at is_unreadable_revocation IsUnreadableRevocation unreadable_revocation-decides file bytes b in
     (((unrevoked, no_unreadable_revocation), no-candidate (host_line_verdict claim) (host-judges claim) file c), host-reasons file claim bytes)
 host-trust-by file claim vouched bytes r b (Some found) c (Some k) v =
     let unrevoked = none-at (revokes_by claim) (RevokesOwn claim.offer) (revokes-decides claim) file bytes r in
-    let no_unreadable_revocation = none-at is_blind Blind unreadable_revocation-decides file bytes b in
+    let no_unreadable_revocation = none-at is_unreadable_revocation IsUnreadableRevocation unreadable_revocation-decides file bytes b in
     let candidate = candidate-is (host_line_verdict claim) (host-judges claim) file found.0 found.1 bytes c in
     (((unrevoked, no_unreadable_revocation), (found.0, found.1, candidate, first-unvouched vouched (host_evidence claim) k v)), host-reasons file claim bytes)
 host-trust-by file claim vouched bytes r b (Some found) c None v = host-reasons file claim bytes
 
 host-reported-by : (file : List ℕ) (claim : HostClaim) (vouched : List Signed) → AreBytes file
     → (revoked : Option ℕ) → first_number (revokes_by claim) 1 (lines_of file) ≡ revoked
-    → (unreadable_revocation : Option ℕ) → first_number is_blind 1 (lines_of file) ≡ unreadable_revocation
+    → (unreadable_revocation : Option ℕ) → first_number is_unreadable_revocation 1 (lines_of file) ≡ unreadable_revocation
     → HostTells file claim vouched (host_decision_by (revocation_cause revoked unreadable_revocation)
     (option_map admitting_number (candidate_of (host_verdicts claim file))) (first_unvouched vouched (host_evidence claim))
     (reasons_of (host_verdicts claim file)) (host_evidence claim))
@@ -346,7 +346,7 @@ host-reported-by file claim vouched bytes (Some n) r unreadable_revocation b =
     (least-at (revokes_by claim) (RevokesOwn claim.offer) (revokes-decides claim) file bytes n r, host-reasons file claim bytes)
 host-reported-by file claim vouched bytes None r (Some n) b =
     let unrevoked = none-at (revokes_by claim) (RevokesOwn claim.offer) (revokes-decides claim) file bytes r in
-    ((unrevoked, least-at is_blind Blind unreadable_revocation-decides file bytes n b), host-reasons file claim bytes)
+    ((unrevoked, least-at is_unreadable_revocation IsUnreadableRevocation unreadable_revocation-decides file bytes n b), host-reasons file claim bytes)
 host-reported-by file claim vouched bytes None r None b = host-trust-by file claim vouched bytes r b _ refl _ refl
 
 pub host_reported : (file : List ℕ) (claim : HostClaim) (vouched : List Signed) → AreBytes file → HostTells file claim vouched (host_decision file claim vouched)

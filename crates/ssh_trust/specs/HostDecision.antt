@@ -1,7 +1,7 @@
 -- The decision on a host's key: what it means, and as a function.
 use Rattle.std.specs.Prelude.{◌≡◌, ℕ, ◌<◌, List, Option, Some, None}
 use Rattle.ssh_entries.specs.KnownEntry.{KnownEntry}
-use Rattle.ssh_entries.specs.KnownGrammar.{Blind, RevokesBytes, SpellsKnown}
+use Rattle.ssh_entries.specs.KnownGrammar.{IsUnreadableRevocation, RevokesBytes, SpellsKnown}
 use Rattle.ssh_offers.specs.declared.claim.Signed.{Signed}
 use Rattle.ssh_offers.specs.Evidence.{host_evidence}
 use Rattle.ssh_offers.specs.HostClaim.{HostClaim}
@@ -38,7 +38,7 @@ RevokesAt file offer i = HoldsAt (RevokesOwn offer) file i
 
 -- line i may revoke any key
 abbrev pub UnreadableRevocationAt : List ℕ → ℕ → Type 0
-UnreadableRevocationAt file i = HoldsAt Blind file i
+UnreadableRevocationAt file i = HoldsAt IsUnreadableRevocation file i
 
 -- the least number of which this holds
 pub record IsLeast (P : ℕ → Type 0) (n : ℕ) : Type 0 where

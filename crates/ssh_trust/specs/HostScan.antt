@@ -20,8 +20,8 @@ abbrev pub revokes_by : HostClaim → List ℕ → Bool
 revokes_by claim line = revokes_offer claim.offer (known_line line)
 
 -- the line may revoke any key
-abbrev pub is_blind : List ℕ → Bool
-is_blind line = may_revoke (known_line line)
+abbrev pub is_unreadable_revocation : List ℕ → Bool
+is_unreadable_revocation line = may_revoke (known_line line)
 
 -- the number of the first line with this property, where the first of these lines has number n
 abbrev pub first_number : (List ℕ → Bool) → ℕ → List (List ℕ) → Option ℕ
@@ -37,7 +37,7 @@ unfoldable pub host_scan_of : HostClaim → List ℕ → HostScan
 host_scan_of claim file = record {
   admission = scan_of admitting_number (map (host_line_verdict claim) (lines_of file));
   revoked = first_number (revokes_by claim) 1 (lines_of file);
-  unreadable_revocation = first_number is_blind 1 (lines_of file);
+  unreadable_revocation = first_number is_unreadable_revocation 1 (lines_of file);
 }
 
 -- ---- line by line
@@ -55,5 +55,5 @@ abbrev pub host_scan_line : HostClaim → HostScan → ℕ × List ℕ → HostS
 host_scan_line claim s x = record {
   admission = scan_line admitting_number (host_line_verdict claim) s.admission x;
   revoked = first_so_far s.revoked x.0 (revokes_by claim x.1);
-  unreadable_revocation = first_so_far s.unreadable_revocation x.0 (is_blind x.1);
+  unreadable_revocation = first_so_far s.unreadable_revocation x.0 (is_unreadable_revocation x.1);
 }

@@ -2,7 +2,7 @@ use Rattle.ssh_entries.proofs.Imports.{arith, sym, ◌∙◌}
 use Rattle.ssh_entries.proofs.ByteLemmas.{AreBytes, AreBytes-from}
 use Rattle.ssh_entries.proofs.KnownFaultLemmas.{known_line-fault}
 use Rattle.ssh_entries.proofs.ReadKnown.{known_line-spelled, known_line-spells}
-use Rattle.ssh_entries.proofs.RevokedLemmas.{revokes-read, read-revokes, blind-read, read-blind}
+use Rattle.ssh_entries.proofs.RevokedLemmas.{revokes-read, read-revokes, unreadable_revocation-read, read-unreadable_revocation}
 use Rattle.ssh_entries.proofs.known_view.read_known_view.Goals as goal
 
 pub returns-clause-found : goal.returns-clause-found
@@ -20,11 +20,11 @@ returns-clause-revoked c =
       λ revokes. c.view_line.ensures ∙ revokes-read c.args.line.now revoked revokes,
     )
 
-pub returns-clause-blind : goal.returns-clause-blind
-returns-clause-blind c =
+pub returns-clause-unreadable_revocation : goal.returns-clause-unreadable_revocation
+returns-clause-unreadable_revocation c =
     let bytes : AreBytes c.args.line.now = AreBytes-from c.args.line.now (λ i. omega (arith, c.type_inv.line i)) in (
-      λ is. read-blind c.args.line.now (sym c.view_line.ensures ∙ is),
-      λ blind. c.view_line.ensures ∙ blind-read c.args.line.now bytes blind,
+      λ is. read-unreadable_revocation c.args.line.now (sym c.view_line.ensures ∙ is),
+      λ unreadable_revocation. c.view_line.ensures ∙ unreadable_revocation-read c.args.line.now bytes unreadable_revocation,
     )
 
 pub returns-clause-fault : goal.returns-clause-fault

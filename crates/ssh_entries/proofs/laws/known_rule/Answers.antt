@@ -1,5 +1,5 @@
 use Rattle.ssh_entries.proofs.ReadKnown.{only_known, known_line-spelled, known_line-spells}
-use Rattle.ssh_entries.proofs.RevokedLemmas.{revokes-read, read-revokes, blind-read, read-blind}
+use Rattle.ssh_entries.proofs.RevokedLemmas.{revokes-read, read-revokes, unreadable_revocation-read, read-unreadable_revocation}
 use Rattle.ssh_entries.proofs.laws.known_rule.Goals as goal
 
 pub returns : goal.returns
@@ -9,6 +9,6 @@ returns c = record {
   spelled = known_line-spells;
   revokes = revokes-read;
   revoked = read-revokes;
-  blind = blind-read;
-  may_revoke = read-blind;
+  unreadable_revocation = unreadable_revocation-read;
+  may_revoke = read-unreadable_revocation;
 }
