@@ -90,14 +90,14 @@ impl Pieces {
         ensures stars { result.has_stars ≡ has_stars list.now }
         ensures bang { result.has_bang ≡ has_bang list.now }
     {
-        let mut pieces = Pieces::NONE;
+        let mut kinds = Pieces::NONE;
         let mut rest = Some(list);
         while let Some(pieces) = rest {
             let (piece, left) = first_piece(pieces);
-            pieces = pieces.with(piece);
+            kinds = kinds.with(piece);
             rest = left;
         }
-        pieces
+        kinds
     }
 }
 

@@ -3,10 +3,10 @@ use Rattle.ssh_findings.proofs.sources.Pieces.of.Given as goal
 
 abbrev pub invariant-loop-rest : goal.invariant-loop-rest
 invariant-loop-rest l = record {
-  name : (l.pieces.has_name || list_any says_name (pieces_left (option_copied l.rest))) ≡ has_name l.list;
-  empty : (l.pieces.has_empty || list_any says_none (pieces_left (option_copied l.rest))) ≡ has_empty_name l.list;
-  stars : (l.pieces.has_stars || list_any is_stars (pieces_left (option_copied l.rest))) ≡ has_stars l.list;
-  bang : (l.pieces.has_bang || list_any begins_with_bang (pieces_left (option_copied l.rest))) ≡ has_bang l.list;
+  name : (l.kinds.has_name || list_any says_name (pieces_left (option_copied l.rest))) ≡ has_name l.list;
+  empty : (l.kinds.has_empty || list_any says_none (pieces_left (option_copied l.rest))) ≡ has_empty_name l.list;
+  stars : (l.kinds.has_stars || list_any is_stars (pieces_left (option_copied l.rest))) ≡ has_stars l.list;
+  bang : (l.kinds.has_bang || list_any begins_with_bang (pieces_left (option_copied l.rest))) ≡ has_bang l.list;
 }
 
 abbrev pub decreases-loop-rest : goal.decreases-loop-rest
