@@ -243,12 +243,12 @@ not-true : (b : Bool) → not b ≡ true → b ≡ false
 not-true true h = cc
 not-true false h = refl
 
-by-reasons : (claim : LoginClaim) (before : Option ℕ) (file : List ℕ) (b : Bool) → reasons_suffice claim (reasons_of (verdicts claim file)) ≡ b
+other-by_reasons : (claim : LoginClaim) (before : Option ℕ) (file : List ℕ) (b : Bool) → reasons_suffice claim (reasons_of (verdicts claim file)) ≡ b
     → before ≡ first-number 1 (verdicts claim file)
     → cond b (lines_other (is_some before) (possible_by claim (numbered 1 (lines_of file)) (reasons_of (verdicts claim file)))) (possible_other claim before file) ≡ possible_other claim before file
 unfolding possible_other
-by-reasons claim before file false is first = refl
-by-reasons claim before file true is first =
+other-by_reasons claim before file false is first = refl
+other-by_reasons claim before file true is first =
     let reasons = reasons_of (verdicts claim file) in
     let lines = numbered 1 (lines_of file) in
     let parts = and_parts (are_all_listed reasons) (not (seeks_security_key claim)) is in
@@ -264,7 +264,7 @@ by-reasons claim before file true is first =
 beside-by_reasons : (claim : LoginClaim) (before : Option ℕ) (file : List ℕ) → before ≡ first-number 1 (verdicts claim file)
     → possible_beside claim before file (reasons_of (verdicts claim file)) ≡ possible_other claim before file
 unfolding possible_beside
-beside-by_reasons claim before file first = by-reasons claim before file (reasons_suffice claim (reasons_of (verdicts claim file))) refl first
+beside-by_reasons claim before file first = other-by_reasons claim before file (reasons_suffice claim (reasons_of (verdicts claim file))) refl first
 
 -- ---- the first line that admits
 
