@@ -74,12 +74,13 @@ return {
     keys_say: [...document.querySelectorAll('#keys>p')].map(text),
     rest: [...document.querySelectorAll('#mend>p')].filter(p => p.className != 'says' || p.previousElementSibling.localName != 'h3').map(text), absent: [...document.querySelectorAll('#mend>ul>li')].map(text),
 };})()"""
-# The lines that each choice leaves on the screen.
+# The sections and the lines that each choice leaves on the screen.
 CHOOSE = """(() => {
 const shown = e => getComputedStyle(e).display != 'none';
 return [...document.querySelectorAll('#lines>input')].reverse().map(i => {
     i.checked = true;
-    return [i.id, [...document.querySelectorAll('section.fl')].filter(shown).flatMap(s => [...s.querySelectorAll('tr.ln')].filter(shown).map(r => r.id))];
+    const files = [...document.querySelectorAll('section.fl')].filter(shown);
+    return [i.id, files.map(s => s.id), files.flatMap(s => [...s.querySelectorAll('tr.ln')].filter(shown).map(r => r.id))];
 });})()"""
 # The least contrast of a text with its ground, as WCAG 2.2 has it, and which text that is.
 CONTRAST = """(() => {
@@ -217,7 +218,7 @@ def wrong_classes(read):
             own |= wanted
             if set(row["classes"]) != wanted or classes_of(found) != wanted - {"u", "ca"}:
                 yield row["id"], row["classes"], wanted
-        if set(file["classes"]) != own & {"u", "ca"}:
+        if set(file["classes"]) != own:
             yield file["id"], file["classes"], own
 
 
@@ -286,8 +287,9 @@ def choice_rows(read, opened):
     numbers = sorted(int(code[1:]) for code in found)
     wanted = [[f"s{number}", "show", False, f"s{number}", f"F{number} {found[f'F{number}']}"] for number in numbers]
     yield "the choices", read["choices"], [["s0", "show", True, "s0", "all lines"], *wanted] if found else []
-    left = [[f"s{number}", [row["id"] for row in rows if f"F{number}" in row["classes"]]] for number in reversed(numbers)]
-    yield "what each choice leaves", opened.ask(CHOOSE), [*left, ["s0", [row["id"] for row in rows]]] if found else []
+    of_code = lambda those, number: [one["id"] for one in those if number == 0 or f"F{number}" in one["classes"]]
+    left = [[f"s{number}", of_code(read["files"], number), of_code(rows, number)] for number in [*reversed(numbers), 0]]
+    yield "what each choice leaves", opened.ask(CHOOSE), left if found else []
 
 
 def header_rows(read, asked):

@@ -425,7 +425,10 @@ def meaning(end):
 
 def put_section(page, file, records, end, kind):
     whats = {made["what"] for made in records}
-    page.put("Section", *["UnreadableClass"] * bool(whats & UNREADABLE), *["AuthorityClass"] * ("authority" in whats)).put("FileId").say(file).put("SectionName").tell(end["file"]).put("SectionSays")
+    page.put("Section")
+    for number in sorted({int(found["code"][1:]) for made in records for found in made["findings"]}):
+        put_class(page, f"F{number}")
+    page.put(*["UnreadableClass"] * bool(whats & UNREADABLE), *["AuthorityClass"] * ("authority" in whats)).put("FileId").say(file).put("SectionName").tell(end["file"]).put("SectionSays")
     if end["fault"]:
         page.put("Fault").say(f"fault {end['fault']}").put("FaultEnd").say(f"{meaning(end)}. Nothing else is told of this file.").put("SectionEnd")
         return

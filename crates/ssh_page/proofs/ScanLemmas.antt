@@ -1,5 +1,5 @@
 -- The rows of a marked text, found by their first piece.
-use Rattle.std.proofs.Common.{◌≡◌, ◌∙◌, ◌+◌, ◌-◌, ◌<◌, ◌==◌, ℕ, zero, suc, Bool, true, false, cond, List, [], ◌∷◌, ◌++◌, length, take, drop, slice_index, Some, None, refl, ap, sym, arith, append_assoc, append-nil, add-one, length-drop, take_all}
+use Rattle.std.proofs.Common.{◌≡◌, ◌∙◌, ◌+◌, ◌-◌, ◌<◌, ◌==◌, ℕ, zero, suc, Bool, true, false, cond, ◌||◌, List, [], ◌∷◌, ◌++◌, length, take, drop, slice_index, Option, Some, None, is_some, option_map, refl, ap, sym, arith, append_assoc, append-nil, add-one, length-drop, take_all}
 use Rattle.std.specs.Option.{option_to_list}
 use Rattle.std.proofs.lemmas.Bool.{false_from_ne_true}
 use Rattle.memchr.specs.Find.{Nowhere, Passes, is_byte}
@@ -12,6 +12,7 @@ use Rattle.ssh_page.specs.declared.record.RowPlace.{RowPlace}
 use Rattle.ssh_page.specs.FoundRows.{behind_byte, after_piece, no_row, place_in, places_in, places_read, read_in, row_start}
 use Rattle.ssh_page.specs.KeyRows.{KeyRowSeen, behind, key_row, rows_in}
 use Rattle.ssh_page.specs.Pieces.{mark}
+use Rattle.ssh_page.specs.RowClasses.{has_piece}
 
 -- ---- the first such byte
 
@@ -61,6 +62,20 @@ behind_none p (b ∷ text) h = go (b == mark p) (λ e. behind_none p text e) h
         → cond is (Some text) (after_piece p text) ≡ None → cond is text (behind p text) ≡ []
     go true later e = cc
     go false later e = later e
+
+pub some_mapped : {A B : Type 0} (f : A → B) (o : Option A) → is_some o ≡ is_some (option_map f o)
+some_mapped f None = refl
+some_mapped f (Some a) = refl
+
+-- the piece stands where something stands behind it
+pub piece_found : (p : Piece) (text : List ℕ) → is_some (after_piece p text) ≡ has_piece p text
+piece_found p [] = refl
+piece_found p (b ∷ text) = go (b == mark p) (piece_found p text)
+  where
+    go : (is : Bool) → is_some (after_piece p text) ≡ has_piece p text
+        → is_some (cond is (Some text) (after_piece p text)) ≡ (is || has_piece p text)
+    go true later = refl
+    go false later = later
 
 -- ---- the places of a code
 

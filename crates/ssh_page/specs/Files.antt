@@ -1,7 +1,10 @@
 -- The section of a file on the page, and its row in the register of files (this project's rule).
-use Rattle.std.specs.Prelude.{ℕ, Bool, List, codes}
+use Rattle.std.specs.Prelude.{ℕ, Bool, List, codes, filter, nat_lt}
 use Rattle.ssh_print.specs.Texts.{hex_text}
 use Rattle.ssh_findings.specs.declared.code.Code.{Code}
+use Rattle.ssh_findings.specs.declared.code_counts.CodeCounts.{CodeCounts}
+use Rattle.ssh_findings.specs.CodeCounts.{number_of}
+use Rattle.ssh_findings.specs.Codes.{all_codes}
 use Rattle.ssh_page.specs.declared.file.FileClasses.{FileClasses}
 use Rattle.ssh_page.specs.declared.file.FileKind.{FileKind}
 use Rattle.ssh_page.specs.declared.file.FileKind.TheVariants.{AuthorizedKeys, KnownHosts}
@@ -39,9 +42,13 @@ pub record ClassesSeen : Type 0 where
   pub has_unreadable : Bool
   pub has_authority : Bool
 
+-- those of these codes that are reported
+abbrev pub reported_among : CodeCounts → List Code → List Code
+reported_among counts listed = filter (λ c. nat_lt 0 (number_of counts c)) listed
+
 -- the same of what is in memory
 abbrev pub classes_seen : FileClasses → ClassesSeen
-classes_seen c = record { reported = c.reported.now; has_unreadable = c.has_unreadable; has_authority = c.has_authority }
+classes_seen c = record { reported = reported_among c.reported all_codes; has_unreadable = c.has_unreadable; has_authority = c.has_authority }
 
 -- ---- the section of a file
 

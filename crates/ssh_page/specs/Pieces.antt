@@ -133,7 +133,7 @@ tags piece.Front =
     alone (codes "!DOCTYPE") (codes " html") ∷ reads (codes "\n") ∷ opens (codes "html") (codes " lang=\"en\"")
     ∷ reads (codes "\n") ∷ opens (codes "head") [] ∷ reads (codes "\n")
     ∷ alone (codes "meta") (codes " charset=\"utf-8\"") ∷ reads (codes "\n")
-    ∷ alone (codes "meta") (codes " http-equiv=\"Content-Security-Policy\" content=\"default-src 'none'; style-src 'sha256-S4FoKF/lOgImnjo8OwJpwhH8ft6bcF4m8TTGtD2cWCU='; base-uri 'none'; form-action 'none'\"")
+    ∷ alone (codes "meta") (codes " http-equiv=\"Content-Security-Policy\" content=\"default-src 'none'; style-src 'sha256-HHpcJutWDFpbGO0cppya+sFGmB3I+tD89LyyB4XubWs='; base-uri 'none'; form-action 'none'\"")
     ∷ reads (codes "\n")
     ∷ alone (codes "meta") (codes " name=\"viewport\" content=\"width=device-width, initial-scale=1\"")
     ∷ reads (codes "\n") ∷ alone (codes "meta") (codes " name=\"color-scheme\" content=\"light dark\"")

@@ -99,9 +99,9 @@ fn push_mark(out: &mut HtmlRoom, marks: &[u8]) -> usize
     }
 }
 
-/// Appends the HTML of bytes at the front that stand for themselves, or of the first mark, and returns
-/// how many these are: 0 if there is no mark or no room.
-fn expand_next(out: &mut HtmlRoom, marks: &[u8]) -> usize
+/// Appends the HTML of the text at the front: of bytes that stand for themselves, or of the first byte.
+/// Returns how many these are: 0 if there is no mark or no room.
+fn expand_text(out: &mut HtmlRoom, marks: &[u8]) -> usize
     ensures html { out.new.items ≡ out.old.items ++ page (take result marks.now) }
     ensures within { result ≤ length marks.now }
     ensures full { result ≡ 0 → NoRoom out.new.items marks.now }
@@ -109,6 +109,19 @@ fn expand_next(out: &mut HtmlRoom, marks: &[u8]) -> usize
     match push_plain(out, marks) {
         0 => push_mark(out, marks),
         count => count,
+    }
+}
+
+/// Appends the HTML of a piece at the front, or of the text there, and returns how many marks these are:
+/// 0 if there is no mark or no room. Pieces are asked for first, since half of the steps meet one.
+fn expand_next(out: &mut HtmlRoom, marks: &[u8]) -> usize
+    ensures html { out.new.items ≡ out.old.items ++ page (take result marks.now) }
+    ensures within { result ≤ length marks.now }
+    ensures full { result ≡ 0 → NoRoom out.new.items marks.now }
+{
+    match marks {
+        [byte, ..] if *byte >= FIRST_MARK => push_mark(out, marks),
+        _ => expand_text(out, marks),
     }
 }
 

@@ -4,10 +4,10 @@
 //! and `push_section_end`. So is the register: `push_register_head`, a row for each file, and
 //! `push_register_end`.
 
-ghost use Rattle.std.specs.Prelude.{◌≡◌, ◌++◌, OnOk};
+ghost use Rattle.std.specs.Prelude.{◌≡◌, ◌++◌, [], OnOk, if◌then◌else◌};
 ghost use Rattle.std.specs.List.{flat_map};
 ghost use Rattle.ssh_page.specs.Documents.{each, marks, put};
-ghost use Rattle.ssh_page.specs.Files.{classes_seen, count_cells, counts_part, empty_section, fault_row, fault_section, fault_words, file_link, file_row, register_end, section_classes, section_head, section_name, seen, table_piece};
+ghost use Rattle.ssh_page.specs.Files.{classes_seen, count_cells, counts_part, empty_section, fault_row, fault_section, fault_words, file_link, file_row, register_end, reported_among, section_classes, section_head, section_name, seen, table_piece};
 ghost use Rattle.ssh_page.specs.Classes.{class_of};
 ghost use Rattle.ssh_page.specs.declared.piece.Piece.TheVariants.{Register, TableEnd};
 
@@ -15,7 +15,7 @@ use crate::classes::push_class;
 use crate::marks::{push_piece, push_reported};
 use crate::piece::Piece;
 use crate::record::push_if;
-use ssh_findings::Code;
+use ssh_findings::{Code, CodeCounts};
 use ssh_print::{push_hex, push_number, push_shown};
 use std::alloc::{AllocError, Global};
 
@@ -39,11 +39,11 @@ pub struct FileRow<'a> {
     pub digest: &'a [u8],
 }
 
-/// What is reported in a file: the codes of its findings, and whether a line of it cannot be read, or
-/// has a certificate authority.
+/// What is reported in a file: how often each code, and whether a line of it cannot be read, or has a
+/// certificate authority.
 #[derive(Clone, Copy, Debug)]
-pub struct FileClasses<'a> {
-    pub reported: &'a [Code],
+pub struct FileClasses {
+    pub reported: CodeCounts,
     pub has_unreadable: bool,
     pub has_authority: bool,
 }
@@ -77,21 +77,39 @@ fn push_counts(out: &mut Vec<u8>, row: &FileRow<'_>) -> Result<(), AllocError>
     Ok(())
 }
 
-fn push_each_class(out: &mut Vec<u8>, reported: &[Code]) -> Result<(), AllocError>
-    ensures { OnOk result (out.new.items ≡ out.old.items ++ marks (each class_of reported.now)) }
+/// Appends the classes of a code, if it is reported.
+fn push_class_if(out: &mut Vec<u8>, is_reported: bool, code: Code) -> Result<(), AllocError>
+    ensures { OnOk result (out.new.items
+        ≡ out.old.items ++ (if is_reported then marks (class_of code) else [])) }
 {
-    for code in reported {
-        push_class(out, *code)?;
+    if is_reported {
+        push_class(out, code)
+    } else {
+        Ok(())
+    }
+}
+
+/// Appends the classes of those of these codes that are reported.
+fn push_each_class(
+    out: &mut Vec<u8>,
+    reported: CodeCounts,
+    listed: &[Code],
+) -> Result<(), AllocError>
+    ensures { OnOk result (out.new.items
+        ≡ out.old.items ++ marks (each class_of (reported_among reported listed.now))) }
+{
+    for code in listed {
+        push_class_if(out, reported.get(*code) > 0, *code)?;
     }
     Ok(())
 }
 
 #[tactic(auto, unfolding(crate::specs::Files::section_classes))]
-fn push_section_classes(out: &mut Vec<u8>, classes: &FileClasses<'_>) -> Result<(), AllocError>
+fn push_section_classes(out: &mut Vec<u8>, classes: &FileClasses) -> Result<(), AllocError>
     ensures { OnOk result (out.new.items
         ≡ out.old.items ++ marks (section_classes (classes_seen classes.entry.now))) }
 {
-    push_each_class(out, classes.reported)?;
+    push_each_class(out, classes.reported, &Code::ALL)?;
     push_if(out, classes.has_unreadable, Piece::UnreadableClass)?;
     push_if(out, classes.has_authority, Piece::AuthorityClass)?;
     Ok(())
@@ -113,7 +131,7 @@ pub fn push_section_head(
     file: u64,
     kind: FileKind,
     row: &FileRow<'_>,
-    classes: &FileClasses<'_>,
+    classes: &FileClasses,
 ) -> Result<(), AllocError>
     ensures { OnOk result (out.new.items ≡ out.old.items ++ marks
         (section_head file kind (seen row.entry.now) (classes_seen classes.entry.now))) }

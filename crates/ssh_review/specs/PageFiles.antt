@@ -4,10 +4,11 @@ use Rattle.std.specs.Prelude.{◌==◌, ◌++◌, ℕ, nat_lt, List, [], length,
 use Rattle.sha2.specs.Sha256.{sha256}
 use Rattle.ssh_text.specs.Text.{lines_of, numbered}
 use Rattle.ssh_findings.specs.Asking.{Asking}
+use Rattle.ssh_findings.specs.Codes.{all_codes}
 use Rattle.ssh_page.specs.declared.file.FileKind.{FileKind}
 use Rattle.ssh_page.specs.declared.file.FileKind.TheVariants.{AuthorizedKeys, KnownHosts}
 use Rattle.ssh_page.specs.Documents.{Document, marks}
-use Rattle.ssh_page.specs.Files.{ClassesSeen, FileSeen, empty_section, fault_row, fault_section, file_row, section, section_end, section_head}
+use Rattle.ssh_page.specs.Files.{ClassesSeen, FileSeen, empty_section, fault_row, fault_section, file_row, reported_among, section, section_end, section_head}
 use Rattle.ssh_page.specs.RowClasses.{has_authority}
 use Rattle.ssh_review.specs.declared.end.Counts.{Counts}
 use Rattle.ssh_files.specs.declared.files.UnreadCause.{UnreadCause}
@@ -46,10 +47,10 @@ seen_so name counts digest = record {
 abbrev pub file_seen : FileKind → Asking → List ℕ → List ℕ → FileSeen
 file_seen kind asking name file = seen_so name (file_counts kind asking file) (sha256 file)
 
--- the classes of a section: an unreadable line, an authority; no codes, since no choice on the page looks for them yet
-abbrev pub classes_of : Counts → List ℕ → ClassesSeen
+-- the classes of a section: the codes that are reported, an unreadable line, an authority
+unfoldable pub classes_of : Counts → List ℕ → ClassesSeen
 classes_of counts rows = record {
-  reported = [];
+  reported = reported_among counts.by_code all_codes;
   has_unreadable = nat_lt 0 counts.unreadable;
   has_authority = has_authority rows;
 }

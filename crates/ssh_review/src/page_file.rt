@@ -43,11 +43,12 @@ fn row_of<'a>(name: &'a [u8], counts: Counts, digest: &'a [u8]) -> FileRow<'a>
 }
 
 /// The classes of a section with these counts and rows.
-fn classes_of<'a>(counts: Counts, rows: &[u8]) -> FileClasses<'a>
+#[tactic(auto, unfolding(crate::specs::PageFiles::classes_of))]
+fn classes_of(counts: Counts, rows: &[u8]) -> FileClasses
     ensures { classes_seen result ≡ classes_of counts rows.now }
 {
     FileClasses {
-        reported: &[],
+        reported: counts.by_code,
         has_unreadable: counts.unreadable > 0,
         has_authority: has_authority(rows),
     }
