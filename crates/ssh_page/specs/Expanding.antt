@@ -28,9 +28,9 @@ abbrev pub IsPlain : List ℕ → Type 0
 IsPlain [] = Unit {0}
 IsPlain (c ∷ marks) = (mark_html c ≡ c ∷ []) × IsPlain marks
 
--- there is no mark, or a room of 4,096 bytes that holds this HTML has none for that of the first
+-- there is no mark, or a room of 16,384 bytes that holds this HTML has none for that of the first
 abbrev pub NoRoom : List ℕ → List ℕ → Type 0
-NoRoom html marks = 0 < length marks → 4096 < length html + length (page (take 1 marks))
+NoRoom html marks = 0 < length marks → 16384 < length html + length (page (take 1 marks))
 
 -- ---- what is markup
 

@@ -71,8 +71,9 @@ fn plain_len(marks: &[u8]) -> usize
     count
 }
 
-/// Room for the HTML of some marks. Only that of the longest pieces does not fit.
-pub type HtmlRoom = ArrayVec<u8, 4096>;
+/// Room for the HTML of some marks. All pieces fit. In a file four writes of 4,096 bytes cost the kernel
+/// twice what one of 16,384 does.
+pub type HtmlRoom = ArrayVec<u8, 16384>;
 
 /// Appends the bytes at the front that stand for themselves, as many as there is room for, and
 /// returns how many these are.
