@@ -1,30 +1,40 @@
 -- The page of a marked text, front by front.
-use Rattle.std.proofs.Common.{◌≡◌, ◌∙◌, ◌+◌, ◌≤◌, ◌<◌, ℕ, zero, suc, List, [], ◌∷◌, ◌++◌, length, take, drop, get_or, refl, ap, sym, subst, arith, append_assoc, add-one, add-suc, add-zero}
-use Rattle.ssh_page.specs.Expanding.{IsPlain, mark_html, page}
+use Rattle.std.proofs.Common.{◌≡◌, ◌∙◌, ◌+◌, ◌≤◌, ℕ, zero, suc, List, [], ◌∷◌, ◌++◌, length, take, drop, refl, ap, sym, arith, append_assoc, add-suc, add-zero}
+use Rattle.std.proofs.Common.{◌==◌, ◌&&◌, ◌||◌, Bool, true, false, not, cond, nat_lt}
+use Rattle.std.specs.List.{prefix_len}
+use Rattle.std.proofs.lemmas.List.Sums.{prefix_len-le-length}
+use Rattle.ssh_page.specs.Expanding.{is_own_html, mark_html, page}
 
 pub page-append : (a b : List ℕ) → page (a ++ b) ≡ page a ++ page b
 page-append [] b = refl
 page-append (c ∷ a) b = ap (λ l. mark_html c ++ l) (page-append a b) ∙ sym (append_assoc (mark_html c) (page a) (page b))
 
--- bytes that stand for themselves, and one more
-plain-suc : (marks : List ℕ) (n c : ℕ) → n < length marks → c ≡ get_or marks n 0 → IsPlain (take n marks) → mark_html c ≡ c ∷ [] → IsPlain (take (suc n) marks)
-plain-suc [] n c lt at h is = absurd (omega (arith, lt))
-plain-suc (d ∷ marks) zero c lt at h is = (subst (λ x. mark_html x ≡ x ∷ []) at is, tt)
-plain-suc (d ∷ marks) (suc n) c lt at h is = (h.0, plain-suc marks n c (omega (arith, lt)) at h.1 is)
+own-parts : (a b c d e f g : List ℕ) (low amp lt gt quote apostrophe : Bool) → (low && not (amp || (lt || (gt || (quote || apostrophe))))) ≡ true
+    → cond low (cond amp a (cond lt b (cond gt c (cond quote d (cond apostrophe e f))))) g ≡ f
+own-parts a b c d e f g true false false false false false h = refl
+own-parts a b c d e f g true true lt gt quote apostrophe h = cc
+own-parts a b c d e f g true false true gt quote apostrophe h = cc
+own-parts a b c d e f g true false false true quote apostrophe h = cc
+own-parts a b c d e f g true false false false true apostrophe h = cc
+own-parts a b c d e f g true false false false false true h = cc
+own-parts a b c d e f g false amp lt gt quote apostrophe h = cc
 
-pub plain_more : (marks : List ℕ) (n c : ℕ) → n < length marks → c ≡ get_or marks n 0 → IsPlain (take n marks) → mark_html c ≡ c ∷ [] → IsPlain (take (n + 1) marks)
-plain_more marks n c lt at h is = rw add-one (plain-suc marks n c lt at h is)
+own-html : (c : ℕ) → is_own_html c ≡ true → mark_html c ≡ c ∷ []
+own-html c h = own-parts _ _ _ _ _ _ _ (nat_lt c 128) (c == 38) (c == 60) (c == 62) (c == 34) (c == 39) h
 
-pub page_plain : (marks : List ℕ) → IsPlain marks → page marks ≡ marks
-page_plain [] h = refl
-page_plain (c ∷ marks) h = ap (λ l. l ++ page marks) h.0 ∙ ap (λ l. c ∷ l) (page_plain marks h.1)
+-- bytes at the front that are their own HTML, all of them or fewer
+pub page_own : (marks : List ℕ) (n : ℕ) → n ≤ prefix_len is_own_html marks → page (take n marks) ≡ take n marks
+page_own marks zero le = refl
+page_own [] (suc n) le = refl
+page_own (c ∷ marks) (suc n) le = go (is_own_html c) refl (λ few. page_own marks n few) le
+  where
+    go : (is : Bool) → is_own_html c ≡ is → (n ≤ prefix_len is_own_html marks → page (take n marks) ≡ take n marks)
+        → suc n ≤ cond is (1 + prefix_len is_own_html marks) 0 → page (take (suc n) (c ∷ marks)) ≡ take (suc n) (c ∷ marks)
+    go true e later le = ap (λ l. l ++ page (take n marks)) (own-html c e) ∙ ap (λ l. c ∷ l) (later (omega (arith, le)))
+    go false e later le = absurd (omega (arith, le))
 
--- fewer of them
-pub plain_front : (marks : List ℕ) (m n : ℕ) → m ≤ n → IsPlain (take n marks) → IsPlain (take m marks)
-plain_front marks zero n le h = tt
-plain_front [] (suc m) n le h = tt
-plain_front (c ∷ marks) (suc m) zero le h = absurd (omega (arith, le))
-plain_front (c ∷ marks) (suc m) (suc n) le h = (h.0, plain_front marks m n (omega (arith, le)) h.1)
+pub own_within : (marks : List ℕ) → prefix_len is_own_html marks ≤ length marks
+own_within marks = prefix_len-le-length is_own_html marks
 
 -- a front, and one of what is behind it
 take-nothing : (n : ℕ) → take {A = ℕ} n [] ≡ []

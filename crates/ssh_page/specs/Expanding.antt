@@ -1,5 +1,5 @@
 -- The page of a marked text: each piece as its HTML, and each byte of text as itself or as its reference.
-use Rattle.std.specs.Prelude.{◌≡◌, ◌<◌, ◌+◌, ◌∷◌, [], ◌==◌, ◌||◌, ◌-◌, ℕ, Bool, not, nat_lt, List, codes, filter, length, take, if◌then◌else◌}
+use Rattle.std.specs.Prelude.{◌<◌, ◌+◌, ◌∷◌, [], ◌==◌, ◌&&◌, ◌||◌, ◌-◌, ℕ, Bool, not, nat_lt, List, codes, filter, length, take, if◌then◌else◌}
 use Rattle.std.specs.List.{flat_map}
 use Rattle.ssh_page.specs.Pieces.{markup_at}
 
@@ -23,10 +23,9 @@ mark_html c = if nat_lt c 128 then byte_html c else markup_at (c - 128)
 abbrev pub page : List ℕ → List ℕ
 page marks = flat_map mark_html marks
 
--- each byte stands for itself
-abbrev pub IsPlain : List ℕ → Type 0
-IsPlain [] = Unit {0}
-IsPlain (c ∷ marks) = (mark_html c ≡ c ∷ []) × IsPlain marks
+-- a byte of text that is its own HTML
+abbrev pub is_own_html : ℕ → Bool
+is_own_html c = nat_lt c 128 && not (c == 38 || (c == 60 || (c == 62 || (c == 34 || c == 39))))
 
 -- there is no mark, or a room of 16,384 bytes that holds this HTML has none for that of the first
 abbrev pub NoRoom : List ℕ → List ℕ → Type 0

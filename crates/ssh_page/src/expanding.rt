@@ -1,11 +1,13 @@
 //! The HTML of a marked text.
 
-ghost use Rattle.std.specs.Prelude.{◌≡◌, ◌++◌, ◌∷◌, ◌≤◌, [], IsTrue, OnOk, drop, length, take};
-ghost use Rattle.ssh_page.specs.Expanding.{IsPlain, NoRoom, byte_html, mark_html, page};
+ghost use Rattle.std.specs.Prelude.{◌≡◌, ◌++◌, ◌∷◌, ◌≤◌, [], OnOk, drop, length, take};
+ghost use Rattle.ssh_page.specs.Expanding.{NoRoom, byte_html, is_own_html, mark_html, page};
 
 use crate::piece::{FIRST_MARK, markup};
 use arrayvec::ArrayVec;
+use ssh_print::{ByteClass, class_len, first_set};
 use std::alloc::AllocError;
+use std::simd::prelude::*;
 
 /// A byte of text, or its reference if it could begin markup or end a value. `itself` is the byte.
 fn byte_html(byte: u8, itself: &[u8]) -> &[u8]
@@ -45,43 +47,42 @@ pub fn expand(out: &mut Vec<u8>, marks: &[u8]) -> Result<(), AllocError>
     Ok(())
 }
 
-/// Whether a byte of a marked text stands for itself.
-fn is_plain(byte: u8) -> bool
-    ensures { IsTrue result → mark_html byte ≡ byte ∷ [] }
-{
-    match byte {
-        b'&' | b'<' | b'>' | b'"' | b'\'' => false,
-        _ => byte < FIRST_MARK,
-    }
-}
+/// The bytes of a marked text that are their own HTML.
+struct OwnHtml;
 
-/// How many bytes at the front stand for themselves.
-#[tactic(auto, using(crate::proofs::ExpandLemmas::plain_more))]
-fn plain_len(marks: &[u8]) -> usize
-    ensures plain { IsPlain (take result marks.now) }
-    ensures within { result ≤ length marks.now }
-{
-    let mut count = 0;
-    for byte in marks {
-        if !is_plain(*byte) {
-            return count;
+impl ByteClass for OwnHtml {
+    ghost test = { is_own_html };
+
+    fn has(byte: u8) -> bool {
+        match byte {
+            b'&' | b'<' | b'>' | b'"' | b'\'' => false,
+            _ => byte < FIRST_MARK,
         }
-        count += 1;
     }
-    count
+
+    fn front_len(bytes: &[u8; 16]) -> usize {
+        let lanes = u8x16::from_array(*bytes);
+        let others = lanes.simd_eq(u8x16::splat(b'&'))
+            | lanes.simd_eq(u8x16::splat(b'<'))
+            | lanes.simd_eq(u8x16::splat(b'>'))
+            | lanes.simd_eq(u8x16::splat(b'"'))
+            | lanes.simd_eq(u8x16::splat(b'\''))
+            | lanes.simd_ge(u8x16::splat(FIRST_MARK));
+        first_set(others.to_bitmask())
+    }
 }
 
 /// Room for the HTML of some marks. All pieces fit. In a file four writes of 4,096 bytes cost the kernel
 /// twice what one of 16,384 does.
 pub type HtmlRoom = ArrayVec<u8, 16384>;
 
-/// Appends the bytes at the front that stand for themselves, as many as there is room for, and
+/// Appends the bytes at the front that are their own HTML, as many as there is room for, and
 /// returns how many these are.
 fn push_plain(out: &mut HtmlRoom, marks: &[u8]) -> usize
     ensures html { out.new.items ≡ out.old.items ++ page (take result marks.now) }
     ensures within { result ≤ length marks.now }
 {
-    let count = plain_len(marks).min(out.remaining_capacity());
+    let count = class_len::<OwnHtml>(marks).min(out.remaining_capacity());
     match out.try_extend_from_slice(marks.split_at(count).0) {
         Ok(()) => count,
         Err(_) => 0,
@@ -100,7 +101,7 @@ fn push_mark(out: &mut HtmlRoom, marks: &[u8]) -> usize
     }
 }
 
-/// Appends the HTML of the text at the front: of bytes that stand for themselves, or of the first byte.
+/// Appends the HTML of the text at the front: of bytes that are their own HTML, or of the first byte.
 /// Returns how many these are: 0 if there is no mark or no room.
 fn expand_text(out: &mut HtmlRoom, marks: &[u8]) -> usize
     ensures html { out.new.items ≡ out.old.items ++ page (take result marks.now) }

@@ -10,7 +10,10 @@ ghost use Rattle.ssh_page.specs.Shown.{is_printable};
 use crate::found_rows::{after_piece, with_digit};
 use crate::piece::Piece;
 use crate::record::RowPlace;
+use memchr::memchr2;
+use ssh_print::{ByteClass, class_len, first_set};
 use std::alloc::{AllocError, Global};
+use std::simd::prelude::*;
 
 /// A row that has a key.
 #[derive(Clone, Copy, Debug)]
@@ -24,10 +27,21 @@ pub(crate) struct KeyRow<'a> {
     pub(crate) is_limited: bool,
 }
 
-fn is_printable(byte: u8) -> bool
-    ensures { result ≡ is_printable byte }
-{
-    byte >= 32 && byte < 127
+/// Printable ASCII.
+struct Printable;
+
+impl ByteClass for Printable {
+    ghost test = { is_printable };
+
+    fn has(byte: u8) -> bool {
+        byte >= 32 && byte < 127
+    }
+
+    fn front_len(bytes: &[u8; 16]) -> usize {
+        let lanes = u8x16::from_array(*bytes);
+        let others = lanes.simd_lt(u8x16::splat(32)) | lanes.simd_ge(u8x16::splat(127));
+        first_set(others.to_bitmask())
+    }
 }
 
 /// What stands behind the first piece of this kind; nothing if there is none.
@@ -42,17 +56,11 @@ fn behind(marks: &[u8], piece: Piece) -> &[u8]
 }
 
 /// The printable text at the front.
+#[tactic(auto, using(crate::proofs::ScanLemmas::front_printable, crate::proofs::ScanLemmas::printable_within))]
 fn front_text(marks: &[u8]) -> &[u8]
     ensures { result.now ≡ front_text marks.now }
 {
-    let mut count = 0;
-    for byte in marks {
-        if !is_printable(*byte) {
-            return marks.split_at(count).0;
-        }
-        count += 1;
-    }
-    marks
+    marks.split_at(class_len::<Printable>(marks)).0
 }
 
 /// The number that these digits spell.
@@ -80,17 +88,15 @@ fn cell_comment(cell: &[u8]) -> &[u8]
 fn print_in(cell: &[u8]) -> &[u8]
     ensures { result.now ≡ print_in cell.now }
 {
-    let mut rest = cell;
-    while let [byte, more @ ..] = rest {
-        if *byte == Piece::RightsCell.mark() {
-            return b"";
-        }
-        if *byte == Piece::Fingerprint.mark() {
-            return front_text(more);
-        }
-        rest = more;
+    let print = Piece::Fingerprint.mark();
+    let Some(at) = memchr2(Piece::RightsCell.mark(), print, cell) else {
+        return b"";
+    };
+    if cell[at] == print {
+        front_text(&cell[at + 1..])
+    } else {
+        b""
     }
-    b""
 }
 
 /// A text of 43 characters.

@@ -1,6 +1,7 @@
 pub mod Imports
 mod HexLemmas
 mod PartLemmas
+pub mod ClassLemmas
 pub mod PlainLemmas
 pub mod ReadingLemmas
 mod DateLemmas

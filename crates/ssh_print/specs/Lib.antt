@@ -1,5 +1,6 @@
 pub mod Texts
 pub mod TextParts
+pub mod ByteClasses
 pub mod Strings
 pub mod Codes
 pub mod DecisionText

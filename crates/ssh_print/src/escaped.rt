@@ -1,14 +1,16 @@
 //! Escaped texts and JSON strings for bytes of any kind.
 
 ghost use Rattle.std.specs.Prelude.{◌≡◌, ◌++◌, OnErr, OnOk, ◌+◌, ◌≤◌, length, take};
-ghost use Rattle.std.specs.List.{list_all, flat_map};
+ghost use Rattle.std.specs.List.{flat_map};
 ghost use Rattle.ssh_print.specs.Texts.{escaped_text, is_plain_byte, escaped_byte};
 ghost use Rattle.ssh_print.specs.Strings.{is_verbatim, json_text, quoted_byte};
 ghost use Rattle.ssh_wire.specs.Fronts.{Keeps};
 
+use crate::byte_class::{ByteClass, are_all, first_set};
 use crate::text::{all_or_nothing, hex_digit, push_escaped};
 use std::alloc::AllocError;
 use std::marker::Model;
+use std::simd::prelude::*;
 
 /// Whether a byte is printed as itself: printable ASCII other than the backslash.
 pub(crate) fn is_plain(byte: u8) -> bool
@@ -17,10 +19,23 @@ pub(crate) fn is_plain(byte: u8) -> bool
     byte >= b' ' && byte < 127 && byte != b'\\'
 }
 
-pub(crate) fn are_plain(text: &[u8]) -> bool
-    ensures { result ≡ list_all is_plain_byte text.now }
-{
-    text.iter().all(|byte| is_plain(*byte))
+/// The bytes that are printed as themselves.
+struct Plain;
+
+impl ByteClass for Plain {
+    ghost test = { is_plain_byte };
+
+    fn has(byte: u8) -> bool {
+        is_plain(byte)
+    }
+
+    fn front_len(bytes: &[u8; 16]) -> usize {
+        let lanes = u8x16::from_array(*bytes);
+        let others = lanes.simd_lt(u8x16::splat(b' '))
+            | lanes.simd_ge(u8x16::splat(127))
+            | lanes.simd_eq(u8x16::splat(b'\\'));
+        first_set(others.to_bitmask())
+    }
 }
 
 /// Appends a text as `push_escaped` does, but in one piece if it needs no escapes. On `Err` nothing
@@ -30,7 +45,7 @@ pub fn push_shown(out: &mut Vec<u8>, text: &[u8]) -> Result<(), AllocError>
     ensures ok { OnOk result (out.new.items ≡ out.old.items ++ escaped_text text.now) }
     ensures err { OnErr result (out.new.items ≡ out.old.items) }
 {
-    if are_plain(text) {
+    if are_all::<Plain>(text) {
         out.extend_from_slice(text)
     } else {
         push_escaped(out, text)
@@ -140,10 +155,24 @@ fn is_verbatim(byte: u8) -> bool
     is_plain(byte) && byte != b'"'
 }
 
-fn are_verbatim(text: &[u8]) -> bool
-    ensures { result ≡ list_all is_verbatim text.now }
-{
-    text.iter().all(|byte| is_verbatim(*byte))
+/// The bytes that are themselves in a JSON string.
+struct Verbatim;
+
+impl ByteClass for Verbatim {
+    ghost test = { is_verbatim };
+
+    fn has(byte: u8) -> bool {
+        is_verbatim(byte)
+    }
+
+    fn front_len(bytes: &[u8; 16]) -> usize {
+        let lanes = u8x16::from_array(*bytes);
+        let others = lanes.simd_lt(u8x16::splat(b' '))
+            | lanes.simd_ge(u8x16::splat(127))
+            | lanes.simd_eq(u8x16::splat(b'\\'))
+            | lanes.simd_eq(u8x16::splat(b'"'));
+        first_set(others.to_bitmask())
+    }
 }
 
 /// Appends what is between the quotes of a JSON string. Bytes that need no backslash go in one
@@ -154,10 +183,10 @@ fn push_string_bytes(out: &mut Vec<u8>, text: &[u8]) -> Result<(), AllocError>
         ≡ out.old.items ++ flat_map quoted_byte (escaped_text text.now)) }
     ensures err { OnErr result (Keeps out.old.items out.new.items) }
 {
-    if are_verbatim(text) {
+    if are_all::<Verbatim>(text) {
         return out.extend_from_slice(text);
     }
-    if are_plain(text) {
+    if are_all::<Plain>(text) {
         return push_quoted_bytes(out, text);
     }
     let mut printed = Vec::new(*out.allocator());

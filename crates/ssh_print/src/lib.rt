@@ -22,6 +22,7 @@
 mod admission_text;
 mod answering;
 mod asked_key;
+mod byte_class;
 mod cert;
 mod codes;
 mod comparison;
@@ -47,6 +48,7 @@ mod text;
 pub use admission_text::{Subject, answer_text, sentence};
 pub use answering::answer_login;
 pub use asked_key::{login_algorithm, stand_in};
+pub use byte_class::{ByteClass, class_len, first_set};
 pub use codes::{
     body_codes, cause_code, cause_codes, cert_codes, fault_codes, line_code, line_codes,
     reason_code, reason_codes,
