@@ -47,8 +47,9 @@ fn short_class_len<C: ByteClass>(text: &[u8]) -> usize
     count
 }
 
-/// How many bytes at the front of a text are of a class.
-#[tactic(auto, using(crate::proofs::ClassLemmas::front_stops, crate::proofs::ClassLemmas::front_goes_on, crate::proofs::ClassLemmas::front_within))]
+/// How many bytes at the front of a text are of a class. The last sixteen are compared together too,
+/// also where some of them were before.
+#[tactic(auto, using(crate::proofs::ClassLemmas::front_stops, crate::proofs::ClassLemmas::front_goes_on, crate::proofs::ClassLemmas::front_overlaps, crate::proofs::ClassLemmas::front_within))]
 pub fn class_len<C: ByteClass>(text: &[u8]) -> usize
     ensures { result ≡ prefix_len C.test text.now }
 {
@@ -62,7 +63,10 @@ pub fn class_len<C: ByteClass>(text: &[u8]) -> usize
         count += 16;
         rest = more;
     }
-    count + short_class_len::<C>(rest)
+    match text.split_last_chunk::<16>() {
+        Some((front, last)) => front.len() + C::front_len(last),
+        None => short_class_len::<C>(text),
+    }
 }
 
 /// Whether all bytes of a text are of a class.
