@@ -31,7 +31,7 @@ TOP = HERE.parent
 PROGRAM = pathlib.Path(sys.argv[1] if len(sys.argv) > 1 else TOP / "crates" / "ssh_audit" / "out" / "ssh_audit").resolve()
 STAND_INS = HERE / "stand_ins"
 # The documents, each with the stand-ins that its commands call. Where `rt run` is one, it leaves the program in its place.
-DOCUMENTS = {"README.md": {"rt try", "rt run", "rt all", ".ci/run", "sudo dpkg"}, "docs/MANUAL.md": set()}
+DOCUMENTS = {"README.md": {"rt try", "rt run", ".ci/run", "sudo dpkg"}, "docs/MANUAL.md": set()}
 BLOCK = re.compile(r"^```(\S*)\n(.*?)^```$", re.MULTILINE | re.DOTALL)
 CODE = TOP / "crates" / "ssh_program" / "src"
 TABLE = re.compile(r"^\| Option of `(\w+)` \|.*\n\|[-|]*\|\n((?:\|.*\n)*)", re.MULTILINE)
