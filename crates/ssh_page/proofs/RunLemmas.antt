@@ -55,7 +55,7 @@ run_pushed groups more rows g count some is front files pushed =
 
 -- ---- in order
 
-key-order : IsStrictWeakOrder (λ (r s : KeyRow). is_lt (slice_cmp nat_cmp r.key s.key))
+pub key-order : IsStrictWeakOrder (λ (r s : KeyRow). is_lt (slice_cmp nat_cmp r.key s.key))
 key-order = ranks_by nat_list_cmp_total (λ (r : KeyRow). r.key)
 
 pub sorted_rows : (rows sorted : List KeyRow) → IsSortedByKey (λ (r : KeyRow). r.key) (slice_cmp nat_cmp) sorted → IsStableByKey (λ (r : KeyRow). r.key) (slice_cmp nat_cmp) rows sorted

@@ -47,6 +47,15 @@ key_by names files (r ∷ rows) =
 abbrev pub key_part : List (List ℕ) → KeyGroupSeen → Document
 key_part names g = key_by names g.files g.rows
 
+-- the comment of the first of some rows
+abbrev pub comment_of : List KeyRowSeen → List ℕ
+comment_of [] = []
+comment_of (r ∷ rows) = r.name
+
+-- that of the first row that has a key
+abbrev pub first_comment : KeyGroupSeen → List ℕ
+first_comment g = comment_of g.rows
+
 -- ---- the keys in many files, as a picture
 
 -- it is in more than two files

@@ -1,11 +1,14 @@
 //! The rows that have a key, those with one key together, and the keys in most files first.
 
 ghost use Rattle.std.specs.Prelude.{◌≡◌, ◌≤◌, ◌<◌, ◌++◌, ◌-◌, ◌^◌, IfOk, drop, length, map};
+ghost use Rattle.std.specs.Cmp.Lexicographic.{slice_cmp};
+ghost use Rattle.std.specs.Ordering.{nat_cmp};
 ghost use Rattle.ssh_page.specs.KeyGroups.{by_key, files_of, group_of, group_seen, groups_in, is_last, run_length, runs, with_file};
 ghost use Rattle.ssh_page.specs.KeyRows.{row_seen, rows_in};
 
 use crate::key_rows::{KeyRow, rows_in};
 use std::alloc::{AllocError, Global};
+use std::cmp::Ordering;
 
 /// The rows of a key.
 #[derive(Clone, Copy, Debug)]
@@ -64,10 +67,10 @@ pub(crate) fn rows_by_key(alloc: Global, sections: &[u8]) -> Result<Vec<KeyRow<'
     ensures { IfOk result (λ rows. map row_seen rows.items ≡ by_key (rows_in sections.now)) }
 {
     let mut rows = rows_in(alloc, sections)?;
-    rows.sort_by_key(
-        |row: &KeyRow<'_>| -> [u8; 43]
-            ensures { result ≡ row.now.key }
-        { row.key },
+    rows.sort_by(
+        |one: &KeyRow<'_>, other: &KeyRow<'_>| -> Ordering
+            ensures { result ≡ slice_cmp nat_cmp one.now.key other.now.key }
+        { one.key.cmp(&other.key) },
     )?;
     Ok(rows)
 }

@@ -1,10 +1,10 @@
 //! Where each key stands: for each different key the lines that have it, as links to their rows.
 
-ghost use Rattle.std.specs.Prelude.{◌≡◌, ◌++◌, OnOk, map};
+ghost use Rattle.std.specs.Prelude.{◌≡◌, ◌++◌, IfOk, OnOk, map};
 ghost use Rattle.std.specs.List.{flat_map};
 ghost use Rattle.ssh_page.specs.Documents.{each, marks};
 ghost use Rattle.ssh_page.specs.KeyGroups.{group_seen};
-ghost use Rattle.ssh_page.specs.KeyLists.{key_counts, key_head, key_list, key_part, keys, limited_note, list_head, name_part, row_link};
+ghost use Rattle.ssh_page.specs.KeyLists.{first_comment, key_counts, key_head, key_list, key_part, keys, limited_note, list_head, name_part, row_link};
 ghost use Rattle.ssh_page.specs.KeyRows.{row_seen};
 ghost use Rattle.ssh_page.specs.Places.{lines_seen};
 
@@ -44,9 +44,10 @@ fn push_key_counts(out: &mut Vec<u8>, files: u64, lines: u64) -> Result<(), Allo
 }
 
 /// Appends the name of a key on the page, whose it is, and its fingerprint, by the first row that has
-/// it.
+/// it and the comment of that row.
 #[tactic(auto, unfolding(crate::specs::KeyLists::key_head))]
-fn push_key_head(out: &mut Vec<u8>, first: &KeyRow<'_>) -> Result<(), AllocError>
+fn push_key_head(out: &mut Vec<u8>, first: &KeyRow<'_>, comment: &[u8]) -> Result<(), AllocError>
+    requires { comment.now ≡ first.now.name.now }
     ensures { OnOk result (out.new.items ≡ out.old.items ++ marks (key_head (row_seen first.now))) }
 {
     push_piece(out, Piece::Key)?;
@@ -54,7 +55,7 @@ fn push_key_head(out: &mut Vec<u8>, first: &KeyRow<'_>) -> Result<(), AllocError
     push_piece(out, Piece::LineId)?;
     push_number(out, first.place.line)?;
     push_piece(out, Piece::SectionName)?;
-    push_name(out, first.name)?;
+    push_name(out, comment)?;
     push_piece(out, Piece::SectionSays)?;
     push_piece(out, Piece::KeyPrint)?;
     push_shown(out, &first.key)?;
@@ -89,15 +90,44 @@ fn push_row_links(out: &mut Vec<u8>, names: &[Bytes], rows: &[KeyRow<'_>]) -> Re
     Ok(())
 }
 
-/// Appends a key, and a link to each row that has it.
-fn push_key(out: &mut Vec<u8>, names: &[Bytes], group: &KeyGroup<'_, '_>) -> Result<(), AllocError>
+/// The comment of the first row that has a key, as it stands in the section.
+fn first_comment<'a>(group: &KeyGroup<'_, 'a>) -> &'a [u8]
+    ensures { result.now ≡ first_comment (group_seen group.now) }
+{
+    match group.rows.split_first() {
+        Some((first, _)) => first.name,
+        None => b"",
+    }
+}
+
+/// The comments of the keys, one behind the other. In the order of the keys they lie all over the
+/// sections, far from each other: a loop that does nothing but copy waits for several at a time.
+fn comments_of(alloc: Global, groups: &[KeyGroup<'_, '_>]) -> Result<Vec<u8>, AllocError>
+    ensures { IfOk result (λ comments. comments.items
+        ≡ flat_map first_comment (map group_seen groups.now)) }
+{
+    let mut comments = Vec::new(alloc);
+    for group in groups {
+        comments.extend_from_slice(first_comment(group))?;
+    }
+    Ok(comments)
+}
+
+/// Appends a key, and a link to each row that has it. `comment` is that of the first.
+fn push_key(
+    out: &mut Vec<u8>,
+    names: &[Bytes],
+    group: &KeyGroup<'_, '_>,
+    comment: &[u8],
+) -> Result<(), AllocError>
+    requires { comment.now ≡ first_comment (group_seen group.now) }
     ensures { OnOk result (out.new.items
         ≡ out.old.items ++ marks (key_part names.now (group_seen group.now))) }
 {
     let Some((first, rest)) = group.rows.split_first() else {
         return Ok(());
     };
-    push_key_head(out, first)?;
+    push_key_head(out, first, comment)?;
     push_key_counts(out, group.files, group.rows.len() as u64)?;
     push_piece(out, Piece::Places)?;
     push_place_link(out, names, first.place)?;
@@ -107,16 +137,22 @@ fn push_key(out: &mut Vec<u8>, names: &[Bytes], group: &KeyGroup<'_, '_>) -> Res
     Ok(())
 }
 
+/// Appends each key. `comments` are theirs, one behind the other.
 fn push_each_key(
     out: &mut Vec<u8>,
     names: &[Bytes],
     groups: &[KeyGroup<'_, '_>],
+    comments: &[u8],
 ) -> Result<(), AllocError>
+    requires { comments.now ≡ flat_map first_comment (map group_seen groups.now) }
     ensures { OnOk result (out.new.items
         ≡ out.old.items ++ marks (each (key_part names.now) (map group_seen groups.now))) }
 {
+    let mut rest = comments;
     for group in groups {
-        push_key(out, names, group)?;
+        let (comment, others) = rest.split_at(first_comment(group).len());
+        push_key(out, names, group, comment)?;
+        rest = others;
     }
     Ok(())
 }
@@ -141,6 +177,7 @@ fn push_list_head(out: &mut Vec<u8>, keys: u64, lines: u64) -> Result<(), AllocE
 /// Appends the list of these keys, which stand on so many lines.
 #[tactic(auto, unfolding(crate::specs::KeyLists::key_list), using(crate::proofs::RunLemmas::same_number))]
 fn push_key_list(
+    alloc: Global,
     out: &mut Vec<u8>,
     names: &[Bytes],
     lines: u64,
@@ -149,9 +186,10 @@ fn push_key_list(
     ensures { OnOk result (out.new.items
         ≡ out.old.items ++ marks (key_list names.now lines (map group_seen groups.now))) }
 {
+    let comments = comments_of(alloc, groups)?;
     push_list_head(out, groups.len() as u64, lines)?;
     push_picture(out, names.len() as u64, groups)?;
-    push_each_key(out, names, groups)?;
+    push_each_key(out, names, groups, &comments)?;
     push_piece(out, Piece::MendEnd)?;
     Ok(())
 }
@@ -162,5 +200,5 @@ pub fn push_keys(alloc: Global, out: &mut Vec<u8>, lines: &PageLines<'_>) -> Res
 {
     let rows = rows_by_key(alloc, lines.sections)?;
     let groups = groups_in(alloc, &rows)?;
-    push_key_list(out, lines.names, rows.len() as u64, &groups)
+    push_key_list(alloc, out, lines.names, rows.len() as u64, &groups)
 }
