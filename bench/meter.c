@@ -20,10 +20,13 @@ static long microseconds(struct timeval time) {
 
 int main(int argc, char **argv) {
     if (argc < 3) return 2;
+    /* Emptied here: in the child the time to drop what an earlier command wrote would be counted as its own. */
+    int output = open(argv[1], O_WRONLY | O_CREAT | O_TRUNC | O_CLOEXEC, 0644);
+    if (output < 0) return 5;
     posix_spawn_file_actions_t streams;
     posix_spawn_file_actions_init(&streams);
     posix_spawn_file_actions_addopen(&streams, 0, "/dev/null", O_RDONLY, 0);
-    posix_spawn_file_actions_addopen(&streams, 1, argv[1], O_WRONLY | O_CREAT | O_TRUNC, 0644);
+    posix_spawn_file_actions_adddup2(&streams, output, 1);
     posix_spawn_file_actions_addopen(&streams, 2, "/dev/null", O_WRONLY, 0);
     pid_t child;
     if (posix_spawnp(&child, argv[2], &streams, NULL, argv + 2, environ) != 0) return 3;
