@@ -2,6 +2,7 @@
 use Rattle.std.proofs.Common.{◌≡◌, ◌∙◌, ◌+◌, ◌≤◌, ℕ, zero, suc, List, [], ◌∷◌, ◌++◌, length, take, drop, refl, ap, sym, arith, append_assoc, add-suc, add-zero}
 use Rattle.std.proofs.Common.{◌==◌, ◌&&◌, ◌||◌, Bool, true, false, not, cond, nat_lt}
 use Rattle.std.specs.List.{prefix_len}
+use Rattle.std.proofs.lemmas.List.{take-take}
 use Rattle.std.proofs.lemmas.List.Sums.{prefix_len-le-length}
 use Rattle.ssh_page.specs.Expanding.{is_own_html, mark_html, page}
 
@@ -50,3 +51,15 @@ pub front_more : (marks : List ℕ) (count more : ℕ) → page (take count mark
 front_more marks count more =
     let same : more + count ≡ count + more = omega arith in
     sym (page-append (take count marks) (take more (drop count marks))) ∙ ap (λ m. page m) (taken marks count more) ∙ ap (λ n. page (take n marks)) same
+
+-- bytes of their own HTML at the front of the next sixteen
+pub text_more : (text : List ℕ) (count len : ℕ) (rest bytes old mid new : List ℕ)
+    → mid ≡ old ++ page (take count text) → rest ≡ drop count text → bytes ≡ take 16 rest → len ≡ prefix_len is_own_html bytes → len ≤ 16
+    → new ≡ mid ++ take len bytes → new ≡ old ++ page (take (count + len) text)
+text_more text count len rest bytes old mid new before left front own few stored =
+    let html : take len bytes ≡ page (take len bytes) = sym (page_own bytes len (omega (arith, own))) in
+    let same : take len bytes ≡ take len (drop count text) = ap (take len) front ∙ take-take len 16 rest few ∙ ap (take len) left in
+    stored ∙ ap (λ m. m ++ take len bytes) before
+    ∙ append_assoc old (page (take count text)) (take len bytes)
+    ∙ ap (λ l. old ++ (page (take count text) ++ l)) (html ∙ ap (λ m. page m) same)
+    ∙ ap (λ l. old ++ l) (front_more text count len)

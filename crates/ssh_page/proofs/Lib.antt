@@ -6,6 +6,7 @@ pub mod PrintableLemmas
 pub mod PageLemmas
 pub mod ReadingLemmas
 pub mod PlaceLemmas
+pub mod RoomLemmas
 pub mod RowLemmas
 pub mod KindLemmas
 pub mod HeaderLemmas

@@ -27,9 +27,9 @@ page marks = flat_map mark_html marks
 abbrev pub is_own_html : ℕ → Bool
 is_own_html c = nat_lt c 128 && not (c == 38 || (c == 60 || (c == 62 || (c == 34 || c == 39))))
 
--- there is no mark, or a room of 16,384 bytes that holds this HTML has none for that of the first
+-- there is no mark, or a room of 65,536 bytes that holds this HTML has none for that of the first
 abbrev pub NoRoom : List ℕ → List ℕ → Type 0
-NoRoom html marks = 0 < length marks → 16384 < length html + length (page (take 1 marks))
+NoRoom html marks = 0 < length marks → 65536 < length html + length (page (take 1 marks))
 
 -- ---- what is markup
 

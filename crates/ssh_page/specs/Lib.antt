@@ -3,6 +3,7 @@ pub mod Pieces
 pub mod Documents
 pub mod Expanding
 pub mod Reading
+pub mod ShortPieces
 pub mod Shown
 pub mod Classes
 pub mod Findings
@@ -21,4 +22,5 @@ pub mod Mending
 pub mod Choices
 pub mod Pages
 pub mod StandIns
+pub mod Rooms
 pub mod RowClasses

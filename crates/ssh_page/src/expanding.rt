@@ -2,10 +2,11 @@
 
 ghost use Rattle.std.specs.Prelude.{◌≡◌, ◌++◌, ◌∷◌, ◌≤◌, [], OnOk, drop, length, take};
 ghost use Rattle.ssh_page.specs.Expanding.{NoRoom, byte_html, is_own_html, mark_html, page};
+ghost use Rattle.ssh_page.specs.Rooms.{html_in};
 
 use crate::piece::{FIRST_MARK, markup};
-use arrayvec::ArrayVec;
-use ssh_print::{ByteClass, class_len, first_set};
+use crate::room::HtmlRoom;
+use ssh_print::{ByteClass, first_set};
 use std::alloc::AllocError;
 use std::simd::prelude::*;
 
@@ -72,41 +73,48 @@ impl ByteClass for OwnHtml {
     }
 }
 
-/// Room for the HTML of some marks. All pieces fit. In a file four writes of 4,096 bytes cost the kernel
-/// twice what one of 16,384 does.
-pub type HtmlRoom = ArrayVec<u8, 16384>;
-
-/// Appends the bytes at the front that are their own HTML, as many as there is room for, and
+/// Appends the bytes at the front that are their own HTML, sixteen at a time, while sixteen fit, and
 /// returns how many these are.
 fn push_plain(out: &mut HtmlRoom, marks: &[u8]) -> usize
-    ensures html { out.new.items ≡ out.old.items ++ page (take result marks.now) }
+    ensures html { html_in out.new ≡ html_in out.old ++ page (take result marks.now) }
     ensures within { result ≤ length marks.now }
 {
-    let count = class_len::<OwnHtml>(marks).min(out.remaining_capacity());
-    match out.try_extend_from_slice(marks.split_at(count).0) {
-        Ok(()) => count,
-        Err(_) => 0,
+    let mut rest = marks;
+    let mut count = 0;
+    while let Some((bytes, others)) = rest.split_first_chunk::<16>() {
+        let len = OwnHtml::front_len(bytes);
+        if !out.store(bytes, len) {
+            return count;
+        }
+        count += len;
+        if len < 16 {
+            return count;
+        }
+        rest = others;
     }
+    count
 }
 
 /// Appends the HTML of the first mark, and returns 1, or 0 if there is no mark or no room.
 fn push_mark(out: &mut HtmlRoom, marks: &[u8]) -> usize
-    ensures html { out.new.items ≡ out.old.items ++ page (take result marks.now) }
+    ensures html { html_in out.new ≡ html_in out.old ++ page (take result marks.now) }
     ensures within { result ≤ length marks.now }
-    ensures full { result ≡ 0 → NoRoom out.new.items marks.now }
+    ensures full { result ≡ 0 → NoRoom (html_in out.new) marks.now }
 {
-    match out.try_extend_from_slice(first_html(marks)) {
-        Ok(()) => marks.len().min(1),
-        Err(_) => 0,
+    let html = first_html(marks);
+    if out.store(html, html.len()) {
+        marks.len().min(1)
+    } else {
+        0
     }
 }
 
 /// Appends the HTML of the text at the front: of bytes that are their own HTML, or of the first byte.
 /// Returns how many these are: 0 if there is no mark or no room.
 fn expand_text(out: &mut HtmlRoom, marks: &[u8]) -> usize
-    ensures html { out.new.items ≡ out.old.items ++ page (take result marks.now) }
+    ensures html { html_in out.new ≡ html_in out.old ++ page (take result marks.now) }
     ensures within { result ≤ length marks.now }
-    ensures full { result ≡ 0 → NoRoom out.new.items marks.now }
+    ensures full { result ≡ 0 → NoRoom (html_in out.new) marks.now }
 {
     match push_plain(out, marks) {
         0 => push_mark(out, marks),
@@ -114,25 +122,42 @@ fn expand_text(out: &mut HtmlRoom, marks: &[u8]) -> usize
     }
 }
 
-/// Appends the HTML of a piece at the front, or of the text there, and returns how many marks these are:
-/// 0 if there is no mark or no room. Pieces are asked for first, since half of the steps meet one.
-fn expand_next(out: &mut HtmlRoom, marks: &[u8]) -> usize
-    ensures html { out.new.items ≡ out.old.items ++ page (take result marks.now) }
+/// Appends the HTML of a short piece at the front, and returns 1; 0 if there is none or no room.
+fn push_short(out: &mut HtmlRoom, marks: &[u8]) -> usize
+    ensures html { html_in out.new ≡ html_in out.old ++ page (take result marks.now) }
     ensures within { result ≤ length marks.now }
-    ensures full { result ≡ 0 → NoRoom out.new.items marks.now }
 {
     match marks {
-        [byte, ..] if *byte >= FIRST_MARK => push_mark(out, marks),
-        _ => expand_text(out, marks),
+        [byte, ..] if *byte >= FIRST_MARK => {
+            if out.store_piece((*byte - FIRST_MARK) as usize) {
+                1
+            } else {
+                0
+            }
+        }
+        _ => 0,
+    }
+}
+
+/// Appends the HTML of a short piece at the front, or of what is there, and returns how many marks these
+/// are: 0 if there is no mark or no room. Pieces are asked for first, since half of the steps meet one.
+fn expand_next(out: &mut HtmlRoom, marks: &[u8]) -> usize
+    ensures html { html_in out.new ≡ html_in out.old ++ page (take result marks.now) }
+    ensures within { result ≤ length marks.now }
+    ensures full { result ≡ 0 → NoRoom (html_in out.new) marks.now }
+{
+    match push_short(out, marks) {
+        0 => expand_text(out, marks),
+        count => count,
     }
 }
 
 /// Appends the HTML of the marks at the front of a marked text, of as many as there is room for, and
 /// returns how many these are. Does not allocate.
 pub fn expand_front(out: &mut HtmlRoom, marks: &[u8]) -> usize
-    ensures html { out.new.items ≡ out.old.items ++ page (take result marks.now) }
+    ensures html { html_in out.new ≡ html_in out.old ++ page (take result marks.now) }
     ensures within { result ≤ length marks.now }
-    ensures full { NoRoom out.new.items (drop result marks.now) }
+    ensures full { NoRoom (html_in out.new) (drop result marks.now) }
 {
     let mut count = 0;
     while count < marks.len() {

@@ -36,10 +36,12 @@ mod piece;
 mod places;
 mod question;
 mod record;
+mod room;
 mod row_classes;
+mod short_piece;
 mod style;
 
-pub use expanding::{HtmlRoom, expand, expand_front, first_html};
+pub use expanding::{expand, expand_front, first_html};
 pub use file::{
     FileClasses, FileKind, FileRow, push_empty_section, push_fault_row, push_fault_section,
     push_file_row, push_register_end, push_register_head, push_section_end, push_section_head,
@@ -52,4 +54,5 @@ pub use page::{push_lines_end, push_lines_start, push_page_end, push_page_start}
 pub use places::PageLines;
 pub use question::PageQuestion;
 pub use record::{RowPlace, push_entry_row, push_unreadable_row};
+pub use room::HtmlRoom;
 pub use row_classes::has_authority;

@@ -150,8 +150,11 @@ pub(crate) enum Piece {
     PageEnd,
 }
 
+/// How many pieces there are.
+pub(crate) const PIECES: usize = 120;
+
 /// The HTML of each piece.
-static MARKUP: [&str; 120] = [
+static MARKUP: [&str; PIECES] = [
     "<code>",
     "</code>",
     "<tr class=\"ln",

@@ -24,7 +24,6 @@ use crate::printing::{put_bytes, put_no_memory};
 use crate::review::{FileNoted, NOTHING, ReviewKind, file_kind, total_status, with_counted};
 use crate::sink::Sink;
 use crate::streaming::FileReported;
-use arrayvec::ArrayVec;
 use ssh_files::{Files, ReadError, UnreadCause, read_whole};
 use ssh_findings::{Code, ReviewOptions};
 use ssh_page::{
@@ -48,12 +47,14 @@ pub struct PageParts {
     pub total: Total,
 }
 
-/// A page in marked text, up to its first section and from there on, and the status.
+/// A page in marked text, up to its first section and from there on, the status, and room for the HTML
+/// of as much as is written at once.
 #[derive(Drop)]
 pub struct MadePage {
     pub front: Vec<u8>,
     pub body: Vec<u8>,
     pub status: u8,
+    pub room: HtmlRoom,
 }
 
 /// Appends what a file of this name and these bytes has on the page. Returns what is counted.
@@ -317,10 +318,12 @@ fn made_of(
     let status = total_status(failing, &parts.total);
     let mut body = parts.sections;
     push_rest(&mut body, &parts.register, &words)?;
+    let room = HtmlRoom::new(alloc)?;
     Ok(MadePage {
         front,
         body,
         status,
+        room,
     })
 }
 
@@ -347,7 +350,7 @@ fn make_page<F: Files>(
 
 /// Writes the HTML of some marks at the front, of which there is at least one, and returns how many
 /// these are. Does not allocate.
-fn put_front<W: Sink>(writer: &mut W, marks: &[u8]) -> io::Result<usize>
+fn put_front<W: Sink>(writer: &mut W, room: &mut HtmlRoom, marks: &[u8]) -> io::Result<usize>
     requires none { NoneFailed (W.account writer.old) }
     requires some { 0 < length marks.now }
     ensures ok { IfOk result (λ count. TakesAll (W.account writer.old) (W.account writer.new)
@@ -357,8 +360,8 @@ fn put_front<W: Sink>(writer: &mut W, marks: &[u8]) -> io::Result<usize>
     ensures err { OnErr result
         (Breaks (W.account writer.old) (W.account writer.new) (page marks.now)) }
 {
-    let mut room: HtmlRoom = ArrayVec::new();
-    let count = expand_front(&mut room, marks);
+    room.clear();
+    let count = expand_front(room, marks);
     if count == 0 {
         put_bytes(writer, first_html(marks))?;
         Ok(1)
@@ -370,14 +373,14 @@ fn put_front<W: Sink>(writer: &mut W, marks: &[u8]) -> io::Result<usize>
 
 /// Writes the HTML of a marked text. After an `Err`, by which a write failed, a front of it was taken
 /// that is not the whole.
-fn put_html<W: Sink>(writer: &mut W, marks: &[u8]) -> io::Result<()>
+fn put_html<W: Sink>(writer: &mut W, room: &mut HtmlRoom, marks: &[u8]) -> io::Result<()>
     requires { NoneFailed (W.account writer.old) }
     ensures ok { OnOk result (TakesAll (W.account writer.old) (W.account writer.new) (page marks.now)) }
     ensures err { OnErr result (Breaks (W.account writer.old) (W.account writer.new) (page marks.now)) }
 {
     let mut rest = marks;
     while !rest.is_empty() {
-        let count = put_front(writer, rest)?;
+        let count = put_front(writer, room, rest)?;
         let (_, behind) = rest.split_at(count);
         rest = behind;
     }
@@ -385,26 +388,37 @@ fn put_html<W: Sink>(writer: &mut W, marks: &[u8]) -> io::Result<()>
 }
 
 /// Writes the HTML of two marked texts, one behind the other.
-fn put_both<W: Sink>(writer: &mut W, front: &[u8], body: &[u8]) -> io::Result<()>
+fn put_both<W: Sink>(
+    writer: &mut W,
+    room: &mut HtmlRoom,
+    front: &[u8],
+    body: &[u8],
+) -> io::Result<()>
     requires { NoneFailed (W.account writer.old) }
     ensures ok { OnOk result (TakesAll (W.account writer.old) (W.account writer.new)
         (page front.now ++ page body.now)) }
     ensures err { OnErr result (Breaks (W.account writer.old) (W.account writer.new)
         (page front.now ++ page body.now)) }
 {
-    put_html(writer, front)?;
-    put_html(writer, body)?;
+    put_html(writer, room, front)?;
+    put_html(writer, room, body)?;
     Ok(())
 }
 
 /// Writes a page, and returns its status, or 2 if a write failed before all was written.
-fn put_page<W: Sink>(writer: &mut W, made: &MadePage) -> u8
+fn put_page<W: Sink>(writer: &mut W, made: MadePage) -> u8
     requires { NoneFailed (W.account writer.old) }
-    ensures { WritesResponse (W.account writer.old) (W.account writer.new) (made_response made.now)
+    ensures { WritesResponse (W.account writer.old) (W.account writer.new) (made_response made)
         result }
 {
-    match put_both(writer, &made.front, &made.body) {
-        Ok(()) => made.status,
+    let MadePage {
+        front,
+        body,
+        status,
+        mut room,
+    } = made;
+    match put_both(writer, &mut room, &front, &body) {
+        Ok(()) => status,
         Err(_) => FAULT,
     }
 }
@@ -430,7 +444,7 @@ pub fn review_page<F: Files, W: Sink>(
         (W.account writer.old) (W.account writer.new) result) }
 {
     match make_page(alloc, title, kind, failing, rule, asked, names, files) {
-        Ok(made) => put_page(writer, &made),
+        Ok(made) => put_page(writer, made),
         Err(AllocError) => put_no_memory(writer),
     }
 }

@@ -22,5 +22,5 @@ returns-in_err-put_bytes-2-clause-err g c =
     let new = g.W.Sink.account c.put_bytes-else-count-eq0.new.writer in
     let front = page (take c.expand_front-count.result c.args.marks.now) in
     let text : c.as_slice.result.now ≡ front =
-    c.as_slice.ensures.value ∙ (c.expand_front-count.ensures.html ∙ ap (λ (x : List ℕ). x ++ front) c.new-room.ensures) in
+    c.as_slice.ensures ∙ (c.expand_front-count.ensures.html ∙ ap (λ (x : List ℕ). x ++ front) c.clear.ensures) in
     on_err _ _ (front-broken old new c.args.marks.now c.expand_front-count.result (subst (Breaks old new) text c.in_err-put_bytes-2.ensures.err))
