@@ -29,7 +29,7 @@ pub use Rattle.ssh_findings.specs.OpenSsh.{may_refuse, is_in_brackets, is_of_nam
 pub use Rattle.ssh_findings.specs.OpenSshBlob.{least_of}
 pub use Rattle.ssh_findings.specs.OpenSshWords.{is_no_space}
 pub use Rattle.ssh_findings.specs.Revoked.{revokes}
-pub use Rattle.ssh_findings.specs.Rows.{IsLast, numbers_in, LeadBack, LeadToLasts}
+pub use Rattle.ssh_findings.specs.Rows.{IsLast, numbers_in, row_of, LeadBack, LeadToLasts}
 pub use Rattle.ssh_findings.specs.Samples.{forms_seen, lists_seen}
 pub use Rattle.ssh_findings.specs.Shadows.{IsFree, IsSame, NamesFirst}
 pub use Rattle.ssh_findings.specs.Spare.{is_code_first}

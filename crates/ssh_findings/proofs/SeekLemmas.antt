@@ -1,5 +1,5 @@
 -- A search from the last hash of a row to the first finds the last place of a text, if it has one.
-use Rattle.ssh_findings.proofs.Imports.{◌≡◌, ◌≢◌, ◌∙◌, ◌<◌, ◌≤◌, ◌%◌, ℕ, suc, Bool, true, false, List, None, ap, arith, ltb, get_or, length, map, refl, subst, sym, bytes_eq, slice_index, eqb-false, ltb-false, ltb-true, ne_eqb, Decides-eqb, get_or-map, length-map, bytes_eq-Decides, Slot, IsPlace, IsLast}
+use Rattle.ssh_findings.proofs.Imports.{◌≡◌, ◌≢◌, ◌∙◌, ◌<◌, ◌≤◌, ℕ, suc, Bool, true, false, List, None, ap, arith, ltb, get_or, length, map, refl, subst, sym, bytes_eq, slice_index, eqb-false, ltb-false, ltb-true, ne_eqb, Decides-eqb, get_or-map, length-map, bytes_eq-Decides, Slot, IsPlace, IsLast, row_of}
 use Rattle.std.specs.Prelude.{◌==◌}
 use Rattle.ssh_findings.specs.Entries.{value_in}
 use Rattle.ssh_findings.specs.Number.{number}
@@ -27,30 +27,30 @@ module _ {V : Type 0} where
   -- as far as a search has come, all later places are those of other texts, and the next is in the text's row
   pub record Wanted (rows : ℕ) (ns : List ℕ) (ps : List (Slot V)) (text : List ℕ) (next : ℕ) : Type 0 where
     pub within : next ≤ length ps
-    pub own : (i : ℕ) → next ≡ suc i → slice_index ns i % rows ≡ number text % rows
+    pub own : (i : ℕ) → next ≡ suc i → row_of (slice_index ns i) rows ≡ row_of (number text) rows
     pub after : (i : ℕ) (d : Slot V) → next ≤ i → i < length ps → bytes_eq (get_or ps i d).text.items text ≡ false
 
   -- a text in another row
   unlike : (rows : ℕ) (ns : List ℕ) (ps : List (Slot V)) (text : List ℕ) (i : ℕ) (d : Slot V) → ns ≡ map (λ p. number p.text.items) ps → i < length ps
-      → (slice_index ns i % rows) ≢ (number text % rows) → bytes_eq (get_or ps i d).text.items text ≡ false
+      → row_of (slice_index ns i) rows ≢ row_of (number text) rows → bytes_eq (get_or ps i d).text.items text ≡ false
   unlike rows ns ps text i d e h differ = go (bytes_eq (get_or ps i d).text.items text) refl
     where
       go : (b : Bool) → bytes_eq (get_or ps i d).text.items text ≡ b → b ≡ false
-      go true t = absurd (differ (ap (λ n. n % rows) (number_at ns ps i d e h ∙ ap number ((bytes_eq-Decides (get_or ps i d).text.items text).0 t))))
+      go true t = absurd (differ (ap (λ n. row_of n rows) (number_at ns ps i d e h ∙ ap number ((bytes_eq-Decides (get_or ps i d).text.items text).0 t))))
       go false t = refl
 
   pub wanted_first : (rows : ℕ) (ns : List ℕ) (ps : List (Slot V)) (text : List ℕ) (wanted next : ℕ) → ns ≡ map (λ p. number p.text.items) ps → wanted ≡ number text
-      → IsLast rows ns (wanted % rows) (length ns) next → Wanted rows ns ps text next
+      → IsLast rows ns (row_of wanted rows) (length ns) next → Wanted rows ns ps text next
   wanted_first rows ns ps text wanted next e same last = record {
     within = subst (λ n. next ≤ n) (count_of ns ps e) last.within;
-    own = λ i f. last.own i f ∙ ap (λ n. n % rows) same;
+    own = λ i f. last.own i f ∙ ap (λ n. row_of n rows) same;
     after = λ i d f g. unlike rows ns ps text i d e g
-        (λ h. last.after i f (subst (λ n. i < n) (sym (count_of ns ps e)) g) (h ∙ ap (λ n. n % rows) (sym same)));
+        (λ h. last.after i f (subst (λ n. i < n) (sym (count_of ns ps e)) g) (h ∙ ap (λ n. row_of n rows) (sym same)));
   }
 
   pub wanted_next : (rows : ℕ) (ns : List ℕ) (ps : List (Slot V)) (text : List ℕ) (at place next : ℕ) → ns ≡ map (λ p. number p.text.items) ps → at ≡ suc place
       → Wanted rows ns ps text at → ((d : Slot V) → bytes_eq (get_or ps place d).text.items text ≡ false)
-      → IsLast rows ns (slice_index ns place % rows) place next → Wanted rows ns ps text next
+      → IsLast rows ns (row_of (slice_index ns place) rows) place next → Wanted rows ns ps text next
   wanted_next rows ns ps text at place next e same s not-here last = record {
     within = omega (arith, last.within, s.within, same);
     own = λ i f. last.own i f ∙ s.own place same;

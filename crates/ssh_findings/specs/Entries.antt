@@ -1,5 +1,5 @@
 -- What a map from byte texts contains (this project's rule).
-use Rattle.std.specs.Prelude.{ℕ, ◌+◌, ◌≡◌, ◌<◌, false, if◌then◌else◌, bytes_eq, get_or, length, List, [], ◌∷◌, Option, Some, None}
+use Rattle.std.specs.Prelude.{ℕ, ◌+◌, ◌≡◌, ◌<◌, false, if◌then◌else◌, bytes_eq, get_or, length, List, [], ◌∷◌, Option, Some, None, IfSome}
 use Rattle.std.specs.BTreeMap.{get_by}
 use Rattle.std.specs.Cmp.Lexicographic.{slice_cmp}
 use Rattle.std.specs.List.{sum_by}
@@ -7,6 +7,8 @@ use Rattle.std.specs.Option.{option_or}
 use Rattle.std.specs.Ordering.{nat_cmp}
 use Rattle.ssh_findings.specs.declared.map.ByteMap.{ByteMap}
 use Rattle.ssh_findings.specs.declared.map.Slot.{Slot}
+use Rattle.ssh_findings.specs.declared.map.Spot.{Spot}
+use Rattle.ssh_findings.specs.Number.{number}
 
 module _ {V : Type 0} where
   -- the value at a place, if the text is there
@@ -41,6 +43,12 @@ module _ {V : Type 0} where
     pub within : index < length places
     pub own : (d : Slot V) → (get_or places index d).text.items ≡ text
     pub after : (i : ℕ) (d : Slot V) → index < i → i < length places → bytes_eq (get_or places i d).text.items text ≡ false
+
+  -- the text with this hash is at this place, or at none
+  pub record IsSpot (map : ByteMap V) (text : List ℕ) (spot : Spot) : Type 0 where
+    pub hash : spot.hash ≡ number text
+    pub found : IfSome spot.place (λ place. IsPlace map.places.items text place)
+    pub absent : spot.place ≡ None → value_in map.places.items text ≡ None
 
   -- each text has its old value, and no sum over the entries has changed
   pub record IsUnchanged (old new : ByteMap V) : Type 0 where

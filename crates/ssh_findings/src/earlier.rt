@@ -188,13 +188,14 @@ fn keep_in(
     ensures spare { IsSome (kept_in map.old blob.now) → IsOk result }
 {
     // The first entry of a key and its first free one are all that later lines need.
-    let first = match map.get(blob) {
+    let spot = map.find(blob);
+    let first = match map.get_at(blob, spot) {
         Some(kept) if kept.free.is_some() => return Ok(()),
         Some(kept) => kept.first,
         None => line,
     };
     let free = free_on(line, facts);
-    map.insert(alloc, blob, Kept { first, free })
+    map.insert(alloc, blob, spot, Kept { first, free })
 }
 
 /// The stored entry that admits the key of this entry first, whatever this entry states.

@@ -1,10 +1,10 @@
 //! The least line that says something of a byte text.
 
-ghost use Rattle.std.specs.Prelude.{if◌then◌else◌, ◌≡◌, ◌≤◌, length, ◌+◌, ℕ, List, IsOk, OnErr, OnOk, None, Some, bytes_eq};
+ghost use Rattle.std.specs.Prelude.{if◌then◌else◌, ◌≡◌, ◌≤◌, length, ◌+◌, ℕ, List, IsOk, OnErr, OnOk, None, Some, bytes_eq, option_copied};
 ghost use Rattle.ssh_findings.specs.Number.{number};
 ghost use Rattle.ssh_findings.specs.HostFindingsEarlier.{is_blob};
 ghost use Rattle.ssh_findings.specs.Least.{lesser};
-ghost use Rattle.ssh_findings.specs.Maps.{IsPrepared, line_at};
+ghost use Rattle.ssh_findings.specs.Maps.{IsPrepared, line_at, line_in};
 ghost use Rattle.ssh_findings.specs.HostFindingsMemory.{spelling_bytes, spelling_sum, texts_bytes, texts_sum};
 
 use crate::map::ByteMap;
@@ -33,6 +33,16 @@ fn least(kept: Option<u64>, line: u64) -> u64
     }
 }
 
+/// The line number of an entry, if it has one.
+fn line_in(kept: Option<&Option<u64>>) -> Option<u64>
+    ensures { result ≡ line_in (option_copied kept.entry) }
+{
+    match kept {
+        None => None,
+        Some(line) => *line,
+    }
+}
+
 /// The lowest line number for each of some texts.
 #[derive(Debug, Drop)]
 pub(crate) struct LeastLines {
@@ -56,10 +66,7 @@ impl LeastLines {
     pub(crate) fn line(&self, bytes: &[u8]) -> Option<u64>
         ensures { result ≡ line_at self.now bytes.now }
     {
-        match self.lines.get(bytes) {
-            None => None,
-            Some(line) => *line,
-        }
+        line_in(self.lines.get(bytes))
     }
 
     /// Stores a text, so that `keep` needs no memory for it. No line is stored.
@@ -70,8 +77,9 @@ impl LeastLines {
         ensures sum { OnOk result ((weight : List ℕ → ℕ)
             → texts_sum weight self.new ≤ texts_sum weight self.old + weight bytes.now) }
     {
-        let line = self.line(bytes);
-        self.lines.insert(alloc, bytes, line)?;
+        let spot = self.lines.find(bytes);
+        let line = line_in(self.lines.get_at(bytes, spot));
+        self.lines.insert(alloc, bytes, spot, line)?;
         Ok(())
     }
 
@@ -90,8 +98,9 @@ impl LeastLines {
         ensures same { IsPrepared self.old bytes.now → OnOk result ((weight : List ℕ → ℕ)
             → texts_sum weight self.new ≡ texts_sum weight self.old) }
     {
-        let least = least(self.line(bytes), line);
-        self.lines.insert(alloc, bytes, Some(least))?;
+        let spot = self.lines.find(bytes);
+        let least = least(line_in(self.lines.get_at(bytes, spot)), line);
+        self.lines.insert(alloc, bytes, spot, Some(least))?;
         Ok(())
     }
 

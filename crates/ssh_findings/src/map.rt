@@ -1,7 +1,7 @@
 //! A hash map with byte texts as keys, with an ordered map for the texts of full rows.
 //!
 //! The blobs of SSH keys share their first bytes, which an ordered map compares again at each step.
-//! Here a text is found by a hash of 64 bits, in a row of a few texts; the rows are doubled as they
+//! Here a text is found by a hash of 64 bits, in a row of a few texts; there are more rows as they
 //! fill. A text whose row is full goes into an ordered map. So even for hostile texts a look-up
 //! takes only a few steps more than in an ordered map.
 
@@ -32,6 +32,16 @@ struct Slot<V> {
     value: V,
 }
 
+/// Where a text is in a map, or where it can be added. It stands as long as the map does not change.
+#[derive(Clone, Copy, Debug)]
+pub(crate) struct Spot {
+    /// The hash of the text.
+    hash: u64,
+    place: Option<usize>,
+    /// Whether the row of the hash has room for another text.
+    has_room: bool,
+}
+
 /// A map from byte texts to values. It holds one copy of each text.
 #[derive(Debug, Drop)]
 pub(crate) struct ByteMap<V> {
@@ -45,7 +55,7 @@ pub(crate) struct ByteMap<V> {
 
 impl<V> ByteMap<V> {
     ghost use Rattle.std.specs.Prelude.{◌<◌, ℕ, get_or, bytes_eq, length, List, None, IfSome, option_copied};
-    ghost use Rattle.ssh_findings.specs.Entries.{IsPlace, entry_of, sum_of, value_in};
+    ghost use Rattle.ssh_findings.specs.Entries.{IsPlace, IsSpot, entry_of, sum_of, value_in};
 
     /// An empty map. Does not allocate.
     pub(crate) fn new(alloc: Global) -> ByteMap<V>
@@ -68,17 +78,17 @@ impl<V> ByteMap<V> {
         self.table.number(place) == wanted && self.places[place].text.as_slice() == text
     }
 
-    /// The place of a text, if it has one, and whether its row has room for another.
-    fn seek(&self, text: &[u8]) -> (Option<usize>, bool)
+    /// The place of a text with this hash, if it has one, and whether its row has room for another.
+    fn seek(&self, hash: u64, text: &[u8]) -> (Option<usize>, bool)
+        requires { hash ≡ number text.now }
         ensures found { IfSome result.0 (λ place. IsPlace self.now.places.items text.now place) }
         ensures absent { result.0 ≡ None → value_in self.now.places.items text.now ≡ None }
     {
-        let number = number(text);
-        let mut next = self.table.last(number);
+        let mut next = self.table.last(hash);
         let mut room: u32 = ROW_LENGTH;
         while next > 0 {
             let place = next - 1;
-            if self.is_place(place, number, text) {
+            if self.is_place(place, hash, text) {
                 return (Some(place), true);
             }
             next = self.table.before(place);
@@ -87,20 +97,41 @@ impl<V> ByteMap<V> {
         (None, room > 0)
     }
 
+    /// Where a text is, or can be added.
+    pub(crate) fn find(&self, text: &[u8]) -> Spot
+        ensures { IsSpot self.now text.now result }
+    {
+        let hash = number(text);
+        let (place, has_room) = self.seek(hash, text);
+        Spot {
+            hash,
+            place,
+            has_room,
+        }
+    }
+
+    /// The value of a text that was found here, if it has one.
+    pub(crate) fn get_at(&self, text: &[u8], spot: Spot) -> Option<&V>
+        requires { IsSpot self.now text.now spot }
+        ensures { option_copied result ≡ entry_of self.now text.now }
+    {
+        match spot.place {
+            Some(place) => Some(&self.places[place].value),
+            None => self.others.get(text),
+        }
+    }
+
     /// The value of a text, if it has one.
     pub(crate) fn get(&self, text: &[u8]) -> Option<&V>
         ensures { option_copied result ≡ entry_of self.now text.now }
     {
-        match self.seek(text) {
-            (Some(place), _) => Some(&self.places[place].value),
-            (None, _) => self.others.get(text),
-        }
+        self.get_at(text, self.find(text))
     }
 }
 
 impl<V: Drop> ByteMap<V> {
     ghost use Rattle.std.specs.Prelude.{◌+◌, ℕ, if◌then◌else◌, bytes_eq, List, None, Some, IsOk, IsSome, OnErr, OnOk};
-    ghost use Rattle.ssh_findings.specs.Entries.{IsPlace, IsUnchanged, entry_of, sum_of, value_in, weight_at};
+    ghost use Rattle.ssh_findings.specs.Entries.{IsPlace, IsSpot, IsUnchanged, entry_of, sum_of, value_in, weight_at};
 
     /// Replaces the value at the place of a text.
     fn replace(&mut self, text: &[u8], place: usize, value: V)
@@ -116,9 +147,10 @@ impl<V: Drop> ByteMap<V> {
         }
     }
 
-    /// Adds a text that is not in the map, with its value, at a new place.
-    fn add(&mut self, alloc: Global, text: &[u8], value: V) -> Result<(), AllocError>
-        requires { entry_of self.old text.now ≡ None }
+    /// Adds a text of this hash that is not in the map, with its value, at a new place.
+    fn add(&mut self, alloc: Global, hash: u64, text: &[u8], value: V) -> Result<(), AllocError>
+        requires hash { hash ≡ number text.now }
+        requires absent { entry_of self.old text.now ≡ None }
         ensures ok { OnOk result ((other : List ℕ) → entry_of self.new other
             ≡ if bytes_eq text.now other then Some value else entry_of self.old other) }
         ensures sum { OnOk result ((weight : List ℕ → V → ℕ)
@@ -126,10 +158,9 @@ impl<V: Drop> ByteMap<V> {
             ≡ sum_of weight self.old + weight text.now value) }
         ensures err { OnErr result (IsUnchanged self.old self.new) }
     {
-        let number = number(text);
         let text = Vec::from_slice(alloc, text)?;
         self.places.reserve(1)?;
-        self.table.push(alloc, number)?;
+        self.table.push(alloc, hash)?;
         self.places.push_reserved(Slot { text, value });
         Ok(())
     }
@@ -154,9 +185,16 @@ impl<V: Drop> ByteMap<V> {
         Ok(())
     }
 
-    /// Inserts a text with a value, or replaces its value, which does not allocate. On `Err`
-    /// nothing is changed.
-    pub(crate) fn insert(&mut self, alloc: Global, text: &[u8], value: V) -> Result<(), AllocError>
+    /// Inserts a text that was found here with a value, or replaces its value, which does not
+    /// allocate. On `Err` nothing is changed.
+    pub(crate) fn insert(
+        &mut self,
+        alloc: Global,
+        text: &[u8],
+        spot: Spot,
+        value: V,
+    ) -> Result<(), AllocError>
+        requires { IsSpot self.old text.now spot }
         ensures ok { OnOk result ((other : List ℕ) → entry_of self.new other
             ≡ if bytes_eq text.now other then Some value else entry_of self.old other) }
         // For any measure of the entries, such as the bytes that they hold: the sum over all
@@ -167,15 +205,17 @@ impl<V: Drop> ByteMap<V> {
         ensures err { OnErr result (IsUnchanged self.old self.new) }
         ensures spare { IsSome (entry_of self.old text.now) → IsOk result }
     {
-        match self.seek(text) {
-            (Some(place), _) => {
+        match spot.place {
+            Some(place) => {
                 self.replace(text, place, value);
                 Ok(())
             }
-            // A text in `others` stays there, even if its row has room again after the rows were
-            // doubled.
-            (None, true) if self.others.get(text).is_none() => self.add(alloc, text, value),
-            (None, _) => self.insert_other(alloc, text, value),
+            // A text in `others` stays there, even if its row has room again after there were more
+            // rows.
+            None if spot.has_room && self.others.get(text).is_none() => {
+                self.add(alloc, spot.hash, text, value)
+            }
+            None => self.insert_other(alloc, text, value),
         }
     }
 }

@@ -127,14 +127,15 @@ impl NamedKeys {
             → names_sum weight self.new ≤ names_sum weight self.old + weight item.now) }
         ensures err { OnErr result ((q b : List ℕ) → other_at self.new q b ≡ other_at self.old q b) }
     {
-        let first = match self.keys.get(item) {
+        let spot = self.keys.find(item);
+        let first = match self.keys.get_at(item, spot) {
             None => FirstKey::new(line, blob)?,
             Some(first) => match first.with(line, blob)? {
                 None => return Ok(()),
                 Some(first) => first,
             },
         };
-        self.keys.insert(alloc, item, first)?;
+        self.keys.insert(alloc, item, spot, first)?;
         Ok(())
     }
 }

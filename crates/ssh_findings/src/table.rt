@@ -1,15 +1,18 @@
 //! The hash chains below `ByteMap`, and the lowest line number that is stored for a text or for the
 //! keys of a name.
 
-ghost use Rattle.std.specs.Prelude.{◌≡◌, ◌≤◌, length, ◌+◌, OnErr, OnOk};
+ghost use Rattle.std.specs.Prelude.{◌≡◌, ◌<◌, ◌≤◌, length};
 ghost use Rattle.ssh_findings.specs.Number.{number};
-ghost use Rattle.ssh_findings.specs.Rows.{LeadBack, LeadToLasts};
+ghost use Rattle.ssh_findings.specs.Rows.{LeadBack, LeadToLasts, row_of};
 
 use std::alloc::{AllocError, Global};
 use std::hash::{FoldHasher, Hasher};
 
 /// How many bytes at the end of a text are hashed: those that differ from one key to another.
 const HASHED: usize = 64;
+
+/// By which the upper half of 64 bits is divided off.
+const UPPER: u64 = 0x1_0000_0000;
 
 /// The 64-bit hash of a text.
 pub(crate) fn number(text: &[u8]) -> u64
@@ -27,8 +30,20 @@ struct Link {
     before: usize,
 }
 
-/// A chained table of hashes: each has its place in the order of insertion. Its row is the hash
-/// modulo the number of rows.
+/// The row of a hash, of so many: as far along them as the upper half of the hash is along the numbers
+/// of 32 bits. A remainder would be as good, and takes a division, for which some processors need as
+/// long as for reading the row.
+#[tactic(auto, unfolding(crate::specs::Rows::row_of))]
+fn row_of(number: u64, rows: usize) -> usize
+    requires { 0 < rows }
+    ensures value { result ≡ row_of number rows }
+    ensures within { result < rows }
+{
+    let along = (number / UPPER).wrapping_mul(rows as u64) / UPPER;
+    (along as usize).min(rows - 1)
+}
+
+/// A chained table of hashes: each has its place in the order of insertion, and a row.
 #[derive(Debug, Drop)]
 pub(crate) struct Table {
     /// For each row, one more than the place of its last hash, or 0.
@@ -40,8 +55,8 @@ pub(crate) struct Table {
 }
 
 impl Table {
-    ghost use Rattle.std.specs.Prelude.{◌≡◌, ◌<◌, ◌%◌, ◌++◌, ◌∷◌, [], IfOk, OnErr, OnOk, slice_index};
-    ghost use Rattle.ssh_findings.specs.Rows.{IsLast};
+    ghost use Rattle.std.specs.Prelude.{◌≡◌, ◌<◌, ◌++◌, ◌∷◌, [], IfOk, OnErr, OnOk, slice_index};
+    ghost use Rattle.ssh_findings.specs.Rows.{IsLast, row_of};
     ghost use Rattle.ssh_findings.specs.Tables.{numbers_of, rows_of};
 
     /// An empty table. Does not allocate.
@@ -64,20 +79,20 @@ impl Table {
 
     /// One more than the place of the last hash in the row of this hash, or 0.
     pub(crate) fn last(&self, number: u64) -> usize
-        ensures { IsLast (rows_of self.now) (numbers_of self.now) (number % rows_of self.now)
+        ensures { IsLast (rows_of self.now) (numbers_of self.now) (row_of number (rows_of self.now))
             (length (numbers_of self.now)) result }
     {
         if self.lasts.is_empty() {
             return 0;
         }
-        self.lasts[number as usize % self.lasts.len()]
+        self.lasts[row_of(number, self.lasts.len())]
     }
 
     /// One more than the place of the previous hash in the row of this place, or 0.
     pub(crate) fn before(&self, place: usize) -> usize
         requires { place < length (numbers_of self.now) }
         ensures { IsLast (rows_of self.now) (numbers_of self.now)
-            (slice_index (numbers_of self.now) place % rows_of self.now) place result }
+            (row_of (slice_index (numbers_of self.now) place) (rows_of self.now)) place result }
     {
         self.links[place].before
     }
@@ -90,7 +105,7 @@ impl Table {
         ensures rows { rows_of self.new ≡ rows_of self.old }
         ensures err { OnErr result (numbers_of self.new ≡ numbers_of self.old) }
     {
-        let row = number as usize % self.lasts.len();
+        let row = row_of(number, self.lasts.len());
         let before = self.lasts[row];
         self.links.push(Link { number, before })?;
         self.lasts[row] = self.links.len();
@@ -121,15 +136,16 @@ impl Table {
         Ok(table)
     }
 
-    /// Appends a hash, and doubles the rows where there are as many hashes. If allocation fails,
-    /// nothing is appended.
+    /// Appends a hash. Where there are half as many hashes as rows, the rows become four times as
+    /// many: each hash in a row is somewhere else in memory, and a look-up reads them all. If
+    /// allocation fails, nothing is appended.
     pub(crate) fn push(&mut self, alloc: Global, number: u64) -> Result<(), AllocError>
         ensures ok { OnOk result (numbers_of self.new ≡ numbers_of self.old ++ number ∷ []) }
         ensures err { OnErr result (numbers_of self.new ≡ numbers_of self.old) }
     {
         let rows = self.lasts.len();
-        if self.links.len() == rows {
-            *self = self.in_rows(alloc, rows.saturating_mul(2).max(8))?;
+        if self.links.len() >= rows / 2 {
+            *self = self.in_rows(alloc, rows.saturating_mul(4).max(8))?;
         }
         self.link(number)
     }

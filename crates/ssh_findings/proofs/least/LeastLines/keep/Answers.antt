@@ -9,7 +9,7 @@ pub returns-clause-ok : goal.returns-clause-ok
 returns-clause-ok c = λ other.
     let n = c.args.line in
     changed line_in (λ o. lesser o (Some n)) c.args.bytes.now other c.args.self.now.lines c.insert.new.self (Some c.least-least.result) c.in_ok-insert.ensures.ok
-    (c.least-least.ensures ∙ ap (λ o. lesser o (Some n)) c.line.ensures)
+    (c.least-least.ensures ∙ ap (λ o. lesser o (Some n)) (c.line_in.ensures ∙ ap line_in c.get_at.ensures))
 
 pub returns-clause-same : goal.returns-clause-same
 returns-clause-same c = λ prepared weight.

@@ -20,4 +20,4 @@ returns-clause-ok g c = λ other.
 pub returns-clause-sum : goal.returns-clause-sum
 returns-clause-sum g c = λ weight.
     let p : Slot g.row.V.Denot = record { text = c.in_ok-text.text; value = c.args.value } in
-    sum_more_place weight c.args.self.now _ c.args.text.now p (c.push_reserved.ensures.items ∙ ap (λ ps. ps ++ p ∷ []) c.reserve.ensures.items) refl c.in_ok-text.ensures.items c.requires
+    sum_more_place weight c.args.self.now _ c.args.text.now p (c.push_reserved.ensures.items ∙ ap (λ ps. ps ++ p ∷ []) c.reserve.ensures.items) refl c.in_ok-text.ensures.items c.requires.absent

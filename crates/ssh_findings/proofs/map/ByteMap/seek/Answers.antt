@@ -5,7 +5,7 @@ use Rattle.ssh_findings.proofs.map.ByteMap.seek.Goals as goal
 pub loop-next-init : goal.loop-next-init
 loop-next-init g c =
     let m = c.args.self.now in
-    wanted_first (rows_of m.table) (numbers_of m.table) m.places.items c.args.text.now c.number-number.result c.last-next.result m.numbered c.number-number.ensures c.last-next.ensures
+    wanted_first (rows_of m.table) (numbers_of m.table) m.places.items c.args.text.now c.args.hash c.last-next.result m.numbered c.requires c.last-next.ensures
 
 -- the place before a number that is not 0
 place_before : (n : ℕ) → 0 < n → n ≡ suc (n - 1)
