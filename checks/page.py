@@ -43,7 +43,7 @@ SMALL = (("auth", [7], None), ("auth", [3], None), ("auth", [4], None), ("auth",
 ATTRIBUTES = {
     "html": "lang", "meta": "charset http-equiv content name", "a": "class href", "p": "class", "h3": "class", "nav": "aria-label", "section": "id class", "div": "class",
     "table": "class", "th": "scope", "td": "class colspan", "tr": "class id", "span": "class aria-hidden", "b": "class", "strong": "class", "ul": "class", "dl": "class",
-    "article": "class id", "input": "type name id checked", "label": "for", "svg": "class viewBox preserveAspectRatio aria-hidden", "rect": "width height", "path": "class d",
+    "article": "id", "input": "type name id checked", "label": "for", "svg": "class viewBox preserveAspectRatio aria-hidden", "rect": "width height", "path": "class d",
 }  # fmt: skip
 ALLOWED = {f"{element} {name}" for element, names in ATTRIBUTES.items() for name in names.split()}
 LEAST_CONTRAST = 4.5
@@ -53,7 +53,7 @@ READ = """(() => {
 const all = [...document.querySelectorAll('*')], text = e => e ? e.textContent : null;
 const walker = document.createTreeWalker(document, NodeFilter.SHOW_COMMENT | NodeFilter.SHOW_PROCESSING_INSTRUCTION | NodeFilter.SHOW_CDATA_SECTION);
 const row = r => ({id: r.id, classes: [...r.classList].slice(1), number: text(r.cells[0]), own: r.cells[1].firstChild.nodeType == 3 ? r.cells[1].firstChild.data : null,
-    comment: text(r.cells[1].querySelector('code')), type: text(r.cells[1].querySelector('.ty')), key: text(r.cells[1].querySelector('samp')),
+    comment: text(r.cells[1].querySelector('code')), type: text(r.cells[1].querySelector('span')), key: text(r.cells[1].querySelector('samp')),
     rights: [...r.cells[2].children].map(text).filter(t => t), what: text(r.cells[2]),
     limits: [...r.cells[3].children].map(p => ({classes: [...p.classList], text: text(p), link: p.querySelector('a') ? [p.querySelector('a').getAttribute('href'), text(p.querySelector('a'))] : null}))});
 return {
@@ -67,8 +67,8 @@ return {
     verdict: [...document.querySelectorAll('.verdict')].map(p => [p.className, text(p)]), tiles: [...document.querySelectorAll('.tiles>li')].map(text), asked: [...document.querySelectorAll('.asked>*')].map(text),
     groups: [...document.querySelectorAll('#mend>h3')].map(h => [h.className, text(h), [...h.nextElementSibling.nextElementSibling.children].map(e =>
         e.localName == 'dt' ? [text(e.querySelector('.cd')), text(e.querySelector('.n')), e.querySelector('svg').getAttribute('viewBox'), e.querySelector('rect').getAttribute('width'), text(e.querySelector('.mean'))] : text(e.firstElementChild))]),
-    places: [...document.querySelectorAll('#mend dd')].map(d => [text(d.previousElementSibling.querySelector('.cd')), [...d.children].slice(1).map(p => [p.className, text(p)]), [...d.querySelectorAll('.places>a')].map(a => [a.getAttribute('href'), text(a.querySelector('code')), text(a)])]),
-    keys: [...document.querySelectorAll('#keys>article')].map(a => [a.id, text(a.querySelector('h3>code')), text(a.querySelector('samp')), text(a.querySelector('p')), [...a.querySelectorAll('.places>a')].map(l => [l.getAttribute('href'), text(l.querySelector('code')), text(l), l.nextElementSibling?.localName == 'i'])]),
+    places: [...document.querySelectorAll('#mend dd')].map(d => [text(d.previousElementSibling.querySelector('.cd')), [...d.children].slice(1).map(text), [...d.querySelectorAll('p+p>a')].map(a => [a.getAttribute('href'), text(a.querySelector('code')), text(a)])]),
+    keys: [...document.querySelectorAll('#keys>article')].map(a => [a.id, text(a.querySelector('h3>code')), text(a.querySelector('samp')), text(a.querySelector('p')), [...a.querySelectorAll('p+p>a')].map(l => [l.getAttribute('href'), text(l.querySelector('code')), text(l), l.nextElementSibling?.localName == 'i'])]),
     picture: [...document.querySelectorAll('#keys>.mx>tbody>tr')].map(r => [r.querySelector('a').getAttribute('href'), text(r.querySelector('code')), text(r.cells[1]), r.querySelector('svg').getAttribute('viewBox'), r.querySelector('path').getAttribute('d')]),
     choices: [...document.querySelectorAll('#lines>input')].map(i => [i.id, i.name, i.checked, i.nextElementSibling.htmlFor, text(i.nextElementSibling)]),
     keys_say: [...document.querySelectorAll('#keys>p')].map(text),
@@ -227,7 +227,7 @@ def wrong_places(read):
     for code, paragraphs, links in read["places"]:
         rows = [(row["id"], file["name"], f"{file['name']}:{row['number']}") for file in read["files"] for row in file["rows"] if code in row["classes"]]
         wanted = [] if reference_page.SOON[code] == "p" else [[f"#{name}", of_file, words] for name, of_file, words in rows]
-        if links != wanted or paragraphs != [["places", " ".join(words for *_, words in wanted)]] * bool(wanted):
+        if links != wanted or paragraphs != [" ".join(words for *_, words in wanted)] * bool(wanted):
             yield code, links, wanted
 
 

@@ -102,9 +102,9 @@ PIECES = {
     "FileId": '" id="f',
     "LineId": "l",
     "RowNumber": '"><th scope="row">',
-    "KeyCell": '</th><td class="k">',
-    "RightsCell": '</td><td class="r">',
-    "LimitsCell": '</td><td class="w">',
+    "KeyCell": '</th><td>',
+    "RightsCell": '</td><td>',
+    "LimitsCell": '</td><td>',
     "RowEnd": "</td></tr>\n",
     # classes, before the number of a code
     "a": " a F",
@@ -115,7 +115,7 @@ PIECES = {
     "AuthorityClass": " ca",
     # the key of a line
     "NoComment": "<i>no comment</i>",
-    "KeyType": ' <span class="ty">',
+    "KeyType": ' <span>',
     "KeyTypeEnd": "</span>",
     "Fingerprint": "<br><samp>SHA256:",
     "FingerprintEnd": "</samp>",
@@ -201,7 +201,7 @@ PIECES = {
     "FoundRemedy": "</span></dt>\n<dd><p>What to do: ",
     "FoundEnd": ".</p></dd>\n",
     # its places
-    "Places": '.</p><p class="places">',
+    "Places": '.</p><p>',
     "PlaceFile": '<a href="#f',
     "PlacesEnd": "</p></dd>\n",
     "NothingToMend": "<p>Nothing.</p>\n",
@@ -211,7 +211,7 @@ PIECES = {
     "LeftOut": '<p class="says">Not looked for:',
     # where each key stands
     "Keys": '<section id="keys">\n<h2>Where each key stands</h2>\n<p class="says">',
-    "Key": '<article class="key" id="k',
+    "Key": '<article id="k',
     "KeyPrint": "<samp>SHA256:",
     "Limited": " <i>(limited)</i>",
     "KeyEnd": "</p>\n</article>\n",

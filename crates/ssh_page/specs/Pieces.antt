@@ -18,9 +18,9 @@ tags piece.Row = begins (codes "tr") (codes " class=\"ln") ∷ []
 tags piece.FileId = goes_on (codes "\" id=\"f") ∷ []
 tags piece.LineId = goes_on (codes "l") ∷ []
 tags piece.RowNumber = ends (codes "\"") ∷ opens (codes "th") (codes " scope=\"row\"") ∷ []
-tags piece.KeyCell = closes (codes "th") ∷ opens (codes "td") (codes " class=\"k\"") ∷ []
-tags piece.RightsCell = closes (codes "td") ∷ opens (codes "td") (codes " class=\"r\"") ∷ []
-tags piece.LimitsCell = closes (codes "td") ∷ opens (codes "td") (codes " class=\"w\"") ∷ []
+tags piece.KeyCell = closes (codes "th") ∷ opens (codes "td") [] ∷ []
+tags piece.RightsCell = closes (codes "td") ∷ opens (codes "td") [] ∷ []
+tags piece.LimitsCell = closes (codes "td") ∷ opens (codes "td") [] ∷ []
 tags piece.RowEnd = closes (codes "td") ∷ closes (codes "tr") ∷ reads (codes "\n") ∷ []
 tags piece.TodayClass = goes_on (codes " a F") ∷ []
 tags piece.SoonClass = goes_on (codes " b F") ∷ []
@@ -29,7 +29,7 @@ tags piece.PolicyClass = goes_on (codes " p F") ∷ []
 tags piece.UnreadableClass = goes_on (codes " u") ∷ []
 tags piece.AuthorityClass = goes_on (codes " ca") ∷ []
 tags piece.NoComment = opens (codes "i") [] ∷ reads (codes "no comment") ∷ closes (codes "i") ∷ []
-tags piece.KeyType = reads (codes " ") ∷ opens (codes "span") (codes " class=\"ty\"") ∷ []
+tags piece.KeyType = reads (codes " ") ∷ opens (codes "span") [] ∷ []
 tags piece.KeyTypeEnd = closes (codes "span") ∷ []
 tags piece.Fingerprint = alone (codes "br") [] ∷ opens (codes "samp") [] ∷ reads (codes "SHA256:") ∷ []
 tags piece.FingerprintEnd = closes (codes "samp") ∷ []
@@ -133,7 +133,7 @@ tags piece.Front =
     alone (codes "!DOCTYPE") (codes " html") ∷ reads (codes "\n") ∷ opens (codes "html") (codes " lang=\"en\"")
     ∷ reads (codes "\n") ∷ opens (codes "head") [] ∷ reads (codes "\n")
     ∷ alone (codes "meta") (codes " charset=\"utf-8\"") ∷ reads (codes "\n")
-    ∷ alone (codes "meta") (codes " http-equiv=\"Content-Security-Policy\" content=\"default-src 'none'; style-src 'sha256-HHpcJutWDFpbGO0cppya+sFGmB3I+tD89LyyB4XubWs='; base-uri 'none'; form-action 'none'\"")
+    ∷ alone (codes "meta") (codes " http-equiv=\"Content-Security-Policy\" content=\"default-src 'none'; style-src 'sha256-a/uv0VIBpsGMtHiL32HGXUkqePuff6iPlf6C/yW8prE='; base-uri 'none'; form-action 'none'\"")
     ∷ reads (codes "\n")
     ∷ alone (codes "meta") (codes " name=\"viewport\" content=\"width=device-width, initial-scale=1\"")
     ∷ reads (codes "\n") ∷ alone (codes "meta") (codes " name=\"color-scheme\" content=\"light dark\"")
@@ -220,7 +220,7 @@ tags piece.FoundRemedy =
     closes (codes "span") ∷ closes (codes "dt") ∷ reads (codes "\n") ∷ opens (codes "dd") [] ∷ opens (codes "p") []
     ∷ reads (codes "What to do: ") ∷ []
 tags piece.FoundEnd = reads (codes ".") ∷ closes (codes "p") ∷ closes (codes "dd") ∷ reads (codes "\n") ∷ []
-tags piece.Places = reads (codes ".") ∷ closes (codes "p") ∷ opens (codes "p") (codes " class=\"places\"") ∷ []
+tags piece.Places = reads (codes ".") ∷ closes (codes "p") ∷ opens (codes "p") [] ∷ []
 tags piece.PlaceFile = begins (codes "a") (codes " href=\"#f") ∷ []
 tags piece.PlacesEnd = closes (codes "p") ∷ closes (codes "dd") ∷ reads (codes "\n") ∷ []
 tags piece.NothingToMend = opens (codes "p") [] ∷ reads (codes "Nothing.") ∷ closes (codes "p") ∷ reads (codes "\n") ∷ []
@@ -234,7 +234,7 @@ tags piece.Keys =
     opens (codes "section") (codes " id=\"keys\"") ∷ reads (codes "\n") ∷ opens (codes "h2") []
     ∷ reads (codes "Where each key stands") ∷ closes (codes "h2") ∷ reads (codes "\n")
     ∷ opens (codes "p") (codes " class=\"says\"") ∷ []
-tags piece.Key = begins (codes "article") (codes " class=\"key\" id=\"k") ∷ []
+tags piece.Key = begins (codes "article") (codes " id=\"k") ∷ []
 tags piece.KeyPrint = opens (codes "samp") [] ∷ reads (codes "SHA256:") ∷ []
 tags piece.Limited = reads (codes " ") ∷ opens (codes "i") [] ∷ reads (codes "(limited)") ∷ closes (codes "i") ∷ []
 tags piece.KeyEnd = closes (codes "p") ∷ reads (codes "\n") ∷ closes (codes "article") ∷ reads (codes "\n") ∷ []

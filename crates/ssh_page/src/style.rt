@@ -40,16 +40,16 @@ h3.a{color:var(--a)}h3.b{color:var(--b)}h3.c{color:var(--c)}h3.p{color:var(--p)}
 .bar{width:100%;height:.75em;background:var(--code);border-radius:2px}
 .a+.says+.codes .bar{fill:var(--a)}.b+.says+.codes .bar{fill:var(--b)}.c+.says+.codes .bar{fill:var(--c)}.p+.says+.codes .bar{fill:var(--p)}
 .mean{font-weight:600}
-.places{line-height:1.75;word-spacing:.35em;max-height:12.3em;overflow:auto}
-.places a{white-space:nowrap;word-spacing:0;text-decoration-color:var(--line)}.places a:hover{text-decoration-color:currentColor}.places a code{white-space:pre;background:none;padding:0}
-.key{background:var(--card);border:1px solid var(--line);border-radius:6px;padding:.7em 1em;margin:.7em 0}
-.key h3{margin:0;max-height:4.6em;overflow:auto}.key>p{color:var(--dim);margin:.1em 0 .5em;font-size:.93em}
+:is(dd,article)>p+p{line-height:1.75;word-spacing:.35em;max-height:12.3em;overflow:auto}
+:is(dd,article)>p+p a{white-space:nowrap;word-spacing:0;text-decoration-color:var(--line)}:is(dd,article)>p+p a:hover{text-decoration-color:currentColor}:is(dd,article)>p+p a code{white-space:pre;background:none;padding:0}
+article{background:var(--card);border:1px solid var(--line);border-radius:6px;padding:.7em 1em;margin:.7em 0}
+article h3{margin:0;max-height:4.6em;overflow:auto}article>p{color:var(--dim);margin:.1em 0 .5em;font-size:.93em}
 i{color:var(--dim)}
-.r{white-space:nowrap}
-.r b,.r i:empty{display:inline-block;min-width:3em;font-size:.8rem;line-height:1.5;text-align:center;border-radius:3px;margin:1px 2px 1px 0;padding:0 .25em}
-.r b{font-weight:600;color:var(--on);border:1px solid var(--on)}.r i:empty{border:1px dashed var(--line)}.r i:empty::before{content:"\A0"}
+.ln>td:nth-child(3){white-space:nowrap}
+.ln>td>b,.ln>td>i:empty{display:inline-block;min-width:3em;font-size:.8rem;line-height:1.5;text-align:center;border-radius:3px;margin:1px 2px 1px 0;padding:0 .25em}
+.ln>td>b{font-weight:600;color:var(--on);border:1px solid var(--on)}.ln>td>i:empty{border:1px dashed var(--line)}.ln>td>i:empty::before{content:"\A0"}
 .nl{color:var(--dim)}
-.r b.no{border-style:dashed;color:var(--dim);border-color:var(--dim)}
+.ln>td>b.no{border-style:dashed;color:var(--dim);border-color:var(--dim)}
 table{border-collapse:collapse;width:100%}
 th,td{text-align:left;vertical-align:top;padding:.4em .6em;border-bottom:1px solid var(--line)}
 thead th{font-size:.82rem;color:var(--dim);font-weight:600;border-bottom:2px solid var(--line)}
@@ -59,16 +59,16 @@ caption{text-align:left;color:var(--dim);padding:.3em 0 .6em;caption-side:top}
 .mx caption{padding:.4em 0}.mx th,.mx td{padding:.16em .6em;border-color:transparent}.mx tbody th{font-weight:400;max-width:15em;width:15em;white-space:nowrap;overflow:hidden;text-overflow:ellipsis}.mx tbody th samp{font-size:.8em}.mx tbody th code{white-space:pre;background:none;padding:0}.mx td.n{width:4em}
 .strip{display:block;width:100%;height:1.35em;background:var(--code)}.full{fill:var(--on)}
 .fl{background:var(--card);border:1px solid var(--line);border-radius:6px;padding:.2em 1em .8em;margin:1em 0}
-.t{content-visibility:auto}.fl>.t{contain-intrinsic-size:auto 30em}.key>.t{contain-intrinsic-size:auto 6em}
+.t{content-visibility:auto}.fl>.t{contain-intrinsic-size:auto 30em}
 .fl h3{margin:.7em 0 0}.fl h3 code{background:none;padding:0;font-size:1em;font-weight:700}.fl>p{color:var(--dim);margin:.1em 0 .5em}
 .fl table{table-layout:fixed}.fl thead th:nth-child(1){width:4em}.fl thead th:nth-child(2){width:36%}.fl thead th:nth-child(3){width:17.5em}
 .ln>th{font-weight:400;color:var(--dim);font-variant-numeric:tabular-nums;border-left:4px solid transparent}
 .ln.p>th{border-color:var(--line) var(--line) var(--line) var(--p)}.ln.c>th{border-left-color:var(--c)}.ln.b>th{border-left-color:var(--b)}.ln.a>th{border-left-color:var(--a)}
 .ln:last-child>*{border-bottom:0}
-.ln:target,.key:target,.fl:target{outline:3px solid var(--link);outline-offset:-1px}
-.k{overflow-wrap:anywhere}.k samp,.ty{color:var(--dim);font-size:.82rem}.ty{white-space:nowrap}.k code+.ty,.k i+.ty{margin-left:.35em}
-.k code,.w code{display:inline-block;max-height:9em;overflow:auto;max-width:100%;vertical-align:top}
-.w p{margin:0 0 .2em;overflow-wrap:anywhere}
+.ln:target,article:target,.fl:target{outline:3px solid var(--link);outline-offset:-1px}
+.ln>td:nth-child(2){overflow-wrap:anywhere}.ln samp,.ln span{color:var(--dim);font-size:.82rem}.ln span{white-space:nowrap}.ln code+span,.ln i+span{margin-left:.35em}
+.ln code{display:inline-block;max-height:9em;overflow:auto;max-width:100%;vertical-align:top}
+.ln p{margin:0 0 .2em;overflow-wrap:anywhere}
 .f{border-radius:3px;padding:.15em .5em;border-left:3px solid}
 .f.p{color:var(--p);background:var(--pbg)}.f.c{color:var(--c);background:var(--cbg)}.f.b{color:var(--b);background:var(--bbg)}.f.a{color:var(--a);background:var(--abg)}.f a{color:inherit}
 strong.a{color:var(--a)}
@@ -139,16 +139,16 @@ html{font-size:8pt;line-height:1.3;background:#fff}body{max-width:none;padding:0
 *{print-color-adjust:exact;-webkit-print-color-adjust:exact}
 nav,.skip,#lines>input,#lines>label,.show,.show~.says,#lines>.says{display:none}
 h2{margin-top:1.2em}
-.t{content-visibility:visible}.key,.fl{border:0;border-top:1px solid var(--line);border-radius:0;padding:.25em 0;margin:.4em 0}
-.places,.k code,.w code{max-height:none;overflow:visible}.k code,.w code{display:inline}.places{line-height:1.4}
-.key h3{max-height:2.8em;overflow:hidden}
-h2,h3,.says{break-after:avoid}.ln,.codes dt,.key h3{break-inside:avoid}
+.t{content-visibility:visible}article,.fl{border:0;border-top:1px solid var(--line);border-radius:0;padding:.25em 0;margin:.4em 0}
+:is(dd,article)>p+p,.ln code{max-height:none;overflow:visible}.ln code{display:inline}:is(dd,article)>p+p{line-height:1.4}
+article h3{max-height:2.8em;overflow:hidden}
+h2,h3,.says{break-after:avoid}.ln,.codes dt,article h3{break-inside:avoid}
 #keys,#lines,#files,#sign{break-before:page}#sign{break-inside:avoid}
 a{color:inherit;text-decoration:none}
 th,td{padding:.2em .4em}
-.places{font-size:.93em}.key>.places::after{display:block;content:"\25A1 keep   \25A1 remove   \25A1 ask";white-space:pre;text-align:right}
-.fl thead th:nth-child(1){width:3em}.fl thead th:nth-child(2){width:38%}.fl thead th:nth-child(3){width:16em}.r b,.r i:empty{font-size:6pt;line-height:1.25;min-width:2.8em}
-.reg td,.reg th{padding:.12em .4em}.reg samp{font-size:5.8pt}.k samp,.ty{font-size:6.4pt}.k samp{white-space:nowrap;letter-spacing:-.02em}
+:is(dd,article)>p+p{font-size:.93em}article>p+p::after{display:block;content:"\25A1 keep   \25A1 remove   \25A1 ask";white-space:pre;text-align:right}
+.fl thead th:nth-child(1){width:3em}.fl thead th:nth-child(2){width:38%}.fl thead th:nth-child(3){width:16em}.ln>td>b,.ln>td>i:empty{font-size:6pt;line-height:1.25;min-width:2.8em}
+.reg td,.reg th{padding:.12em .4em}.reg samp{font-size:5.8pt}.ln samp,.ln span{font-size:6.4pt}.ln samp{white-space:nowrap;letter-spacing:-.02em}
 .mx tbody th{max-width:14em}.strip{height:1.1em}
 }
 "##;
