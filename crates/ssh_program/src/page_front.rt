@@ -116,7 +116,8 @@ fn push_header(
     Ok(())
 }
 
-/// The title, the header, what has to be mended, and where each key stands.
+/// The title, the header, what has to be mended, and where each key stands. It is made in the memory of
+/// `spare`.
 fn page_front(
     alloc: Global,
     title: &str,
@@ -124,11 +125,13 @@ fn page_front(
     totals: &PageTotals,
     found: &[CodeCount],
     lines: &PageLines<'_>,
+    spare: Vec<u8>,
 ) -> Result<Vec<u8>, AllocError>
     ensures { IfOk result (λ front. front.items ≡ page_front title.now (question_seen question.entry.now)
         totals.now found.now (lines_seen lines.entry.now)) }
 {
-    let mut front = Vec::new(alloc);
+    let mut front = spare;
+    front.clear();
     push_page_start(&mut front, title.as_bytes())?;
     push_header(alloc, &mut front, question, totals)?;
     push_mend(alloc, &mut front, question, totals, found, lines)?;
@@ -137,7 +140,8 @@ fn page_front(
     Ok(front)
 }
 
-/// The marked text before the first section, where these are the lines and the total of all files.
+/// The marked text before the first section, where these are the lines and the total of all files. It
+/// is made in the memory of `spare`, whatever is in it.
 #[tactic(auto, unfolding(crate::specs::PageFronts::codes_found))]
 pub fn front_of(
     alloc: Global,
@@ -147,6 +151,7 @@ pub fn front_of(
     asked: &ReviewOptions<'_>,
     lines: &PageLines<'_>,
     total: &Total,
+    spare: Vec<u8>,
 ) -> Result<Vec<u8>, AllocError>
     ensures { IfOk result (λ front. front.items ≡ front_of title.now kind rule.now
         (asking_of asked.entry.now) (lines_seen lines.entry.now) total.now) }
@@ -154,6 +159,6 @@ pub fn front_of(
     let found = found_among(alloc, total.counts.by_code, &Code::ALL)?;
     let totals = page_totals(total, &found);
     let question = page_question(kind, rule, asked);
-    let front = page_front(alloc, title, &question, &totals, &found, lines)?;
+    let front = page_front(alloc, title, &question, &totals, &found, lines, spare)?;
     Ok(front)
 }

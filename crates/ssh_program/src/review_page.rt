@@ -45,6 +45,8 @@ pub struct PageParts {
     pub sections: Vec<u8>,
     pub register: Vec<u8>,
     pub total: Total,
+    /// Memory that nothing needs any more, whatever is in it.
+    pub spare: Vec<u8>,
 }
 
 /// A page in marked text, up to its first section and from there on, the status, and room for the HTML
@@ -66,6 +68,7 @@ fn push_reviewed(
     name: &[u8],
     file: &[u8],
     keys: &mut DistinctKeys,
+    rows: &mut Vec<u8>,
     sections: &mut Vec<u8>,
     register: &mut Vec<u8>,
 ) -> Result<FileReported, AllocError>
@@ -79,7 +82,7 @@ fn push_reviewed(
         (λ reported. reported ≡ given_kept kind (asking_of asked.entry.now) (Ok file.now)) }
 {
     let counts = push_page_file(
-        alloc, kind, number, asked, name, file, keys, sections, register,
+        alloc, kind, number, asked, name, file, keys, rows, sections, register,
     )?;
     Ok(FileReported {
         counts,
@@ -97,6 +100,7 @@ fn push_noted(
     name: &[u8],
     file: &[u8],
     earlier: DistinctKeys,
+    rows: &mut Vec<u8>,
     sections: &mut Vec<u8>,
     register: &mut Vec<u8>,
 ) -> Result<FileNoted, AllocError>
@@ -110,7 +114,7 @@ fn push_noted(
 {
     let mut keys = earlier;
     let reported = push_reviewed(
-        alloc, kind, number, asked, name, file, &mut keys, sections, register,
+        alloc, kind, number, asked, name, file, &mut keys, rows, sections, register,
     )?;
     Ok(FileNoted { reported, keys })
 }
@@ -188,6 +192,7 @@ fn tell_shown<F: Files>(
     shown: &[u8],
     keys: DistinctKeys,
     files: &mut F,
+    rows: &mut Vec<u8>,
     sections: &mut Vec<u8>,
     register: &mut Vec<u8>,
 ) -> Result<FileNoted, AllocError>
@@ -199,7 +204,7 @@ fn tell_shown<F: Files>(
 {
     match read_whole(alloc, files, name.path) {
         Ok(file) => push_noted(
-            alloc, kind, number, asked, shown, &file, keys, sections, register,
+            alloc, kind, number, asked, shown, &file, keys, rows, sections, register,
         ),
         Err(fault) => {
             let cause = files.unread_cause(name.path);
@@ -218,6 +223,7 @@ fn tell_file<F: Files>(
     name: FileName<'_>,
     keys: DistinctKeys,
     files: &mut F,
+    rows: &mut Vec<u8>,
     sections: &mut Vec<u8>,
     register: &mut Vec<u8>,
 ) -> Result<FileNoted, AllocError>
@@ -228,7 +234,7 @@ fn tell_file<F: Files>(
 {
     let shown = shown_name(alloc, name)?;
     tell_shown(
-        alloc, kind, number, asked, name, &shown, keys, files, sections, register,
+        alloc, kind, number, asked, name, &shown, keys, files, rows, sections, register,
     )
 }
 
@@ -245,6 +251,7 @@ fn tell_files<F: Files>(
         PageReported kind (asking_of asked.entry.now) (names_seen names.entry) s
         (F.source_state files.new) (parts_seen parts))) }
 {
+    let mut rows = Vec::new(alloc);
     let mut sections = Vec::new(alloc);
     let mut register = Vec::new(alloc);
     let mut total = NOTHING;
@@ -259,6 +266,7 @@ fn tell_files<F: Files>(
             name,
             keys,
             files,
+            &mut rows,
             &mut sections,
             &mut register,
         )?;
@@ -270,6 +278,7 @@ fn tell_files<F: Files>(
         sections,
         register,
         total,
+        spare: rows,
     })
 }
 
@@ -301,9 +310,15 @@ fn made_of(
     ensures { IfOk result (λ made. made_response made ≡ parts_response failing.now title.now kind rule.now
         (asking_of asked.entry.now) names.now (parts_seen parts)) }
 {
+    let PageParts {
+        sections,
+        register,
+        total,
+        spare,
+    } = parts;
     let lines = PageLines {
         names,
-        sections: &parts.sections,
+        sections: &sections,
     };
     let front = front_of(
         alloc,
@@ -312,12 +327,13 @@ fn made_of(
         rule,
         asked,
         &lines,
-        &parts.total,
+        &total,
+        spare,
     )?;
-    let words = total_words(alloc, rule, asked, &parts.total)?;
-    let status = total_status(failing, &parts.total);
-    let mut body = parts.sections;
-    push_rest(&mut body, &parts.register, &words)?;
+    let words = total_words(alloc, rule, asked, &total)?;
+    let status = total_status(failing, &total);
+    let mut body = sections;
+    push_rest(&mut body, &register, &words)?;
     let room = HtmlRoom::new(alloc)?;
     Ok(MadePage {
         front,

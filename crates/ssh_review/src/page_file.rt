@@ -76,7 +76,8 @@ fn push_section(
     }
 }
 
-/// Appends the section and the row of a file whose review begins here.
+/// Appends the section and the row of a file whose review begins here. Its rows are made in the memory
+/// of `rows`, whatever is in it.
 fn push_records<L: LineRecords + Drop>(
     alloc: Global,
     kind: FileKind,
@@ -86,6 +87,7 @@ fn push_records<L: LineRecords + Drop>(
     file: &[u8],
     begun: Records<'_, L>,
     keys: &mut DistinctKeys,
+    rows: &mut Vec<u8>,
     sections: &mut Vec<u8>,
     register: &mut Vec<u8>,
 ) -> Result<Counts, AllocError>
@@ -102,7 +104,7 @@ fn push_records<L: LineRecords + Drop>(
         → register.new.items ≡ register.old.items
         ++ marks (file_row number (seen_so name.now all.counts (sha256 file.now)))) }
 {
-    let mut rows = Vec::new(alloc);
+    rows.clear();
     let reported = push_all(
         alloc,
         RecordForm::AsRow(number),
@@ -110,17 +112,19 @@ fn push_records<L: LineRecords + Drop>(
         name,
         begun,
         keys,
-        &mut rows,
+        rows,
     )?;
     let digest = Sha256::digest(file);
     let row = row_of(name, reported.counts, &digest);
-    push_section(sections, kind, number, &row, reported.counts, &rows)?;
+    push_section(sections, kind, number, &row, reported.counts, rows)?;
     push_file_row(alloc, register, number, &row)?;
     Ok(reported.counts)
 }
 
 /// Appends what a file of this name and these bytes has on the page: the section with this number,
-/// counted from 0, and the row in the register. Notes its keys, and returns its counts.
+/// counted from 0, and the row in the register. Notes its keys, and returns its counts. The rows of
+/// the section are made in the memory of `rows`, whatever is in it, so that a caller needs it once for
+/// all files.
 pub fn push_page_file(
     alloc: Global,
     kind: FileKind,
@@ -129,6 +133,7 @@ pub fn push_page_file(
     name: &[u8],
     file: &[u8],
     keys: &mut DistinctKeys,
+    rows: &mut Vec<u8>,
     sections: &mut Vec<u8>,
     register: &mut Vec<u8>,
 ) -> Result<Counts, AllocError>
@@ -145,13 +150,13 @@ pub fn push_page_file(
         FileKind::AuthorizedKeys => {
             let begun = auth_records(alloc, file);
             push_records(
-                alloc, kind, number, asked, name, file, begun, keys, sections, register,
+                alloc, kind, number, asked, name, file, begun, keys, rows, sections, register,
             )
         }
         FileKind::KnownHosts => {
             let begun = known_records(alloc, file);
             push_records(
-                alloc, kind, number, asked, name, file, begun, keys, sections, register,
+                alloc, kind, number, asked, name, file, begun, keys, rows, sections, register,
             )
         }
     }

@@ -12,7 +12,7 @@ returns-clause-section g c =
     λ text all w.
     let made = c.in_ok-reported.ensures.made c.args.file.now text all w in
     section-of-all c.args.kind c.args.number c.args.name.now c.args.file.now text _ c.args.sections.now.items c.push_section.new.out.items c.digest-digest.result all c.in_ok-reported.reported (seen c.row_of-row.result)
-    c.in_ok-push_section.ensures (search rules) c.digest-digest.ensures (c.deref.ensures.value ∙ (made.0 ∙ ap (λ (l : List ℕ). l ++ text) c.new-rows.ensures.items)) made.1
+    c.in_ok-push_section.ensures (search rules) c.digest-digest.ensures (c.deref.ensures.value ∙ (made.0 ∙ ap (λ (l : List ℕ). l ++ text) c.clear.ensures.items)) made.1
 
 pub returns-clause-row : goal.returns-clause-row
 returns-clause-row g c =
