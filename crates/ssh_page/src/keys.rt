@@ -36,6 +36,10 @@ pub(crate) fn push_name(out: &mut Vec<u8>, name: &[u8]) -> Result<(), AllocError
 fn push_key_counts(out: &mut Vec<u8>, files: u64, lines: u64) -> Result<(), AllocError>
     ensures { OnOk result (out.new.items ≡ out.old.items ++ marks (key_counts files lines)) }
 {
+    // Most keys are on one line.
+    if files == 1 && lines == 1 {
+        return push_shown(out, b" in 1 file, on 1 line");
+    }
     push_shown(out, b" in ")?;
     push_how_many(out, files, b" file", b" files")?;
     push_shown(out, b", on ")?;

@@ -9,6 +9,7 @@ use crate::found_rows::places_in;
 use crate::marks::{push_piece, push_reported};
 use crate::piece::Piece;
 use crate::record::RowPlace;
+use itoa::Buffer;
 use ssh_findings::{Code, Urgency, how_soon};
 use ssh_print::{push_number, push_shown};
 use ssh_text::Bytes;
@@ -42,14 +43,16 @@ pub(crate) fn push_place_link(
 ) -> Result<(), AllocError>
     ensures { OnOk result (out.new.items ≡ out.old.items ++ marks (place_link names.now place)) }
 {
+    let mut digits = Buffer::new();
+    let line = digits.format(place.line).as_bytes();
     push_piece(out, Piece::PlaceFile)?;
     push_number(out, place.file)?;
     push_piece(out, Piece::LineId)?;
-    push_number(out, place.line)?;
+    out.extend_from_slice(line)?;
     push_piece(out, Piece::FileName)?;
     push_reported(out, name_at(names, place.file))?;
     push_shown(out, b":")?;
-    push_number(out, place.line)?;
+    out.extend_from_slice(line)?;
     push_piece(out, Piece::LinkEnd)?;
     Ok(())
 }

@@ -9,6 +9,7 @@ ghost use Rattle.ssh_page.specs.Records.{all_limits, bits_part, carried_part, pu
 use crate::finding::{push_classes, push_findings};
 use crate::marks::{push_piece, push_reported};
 use crate::piece::Piece;
+use itoa::Buffer;
 use ssh_findings::{Facts, Finding, HeldKey};
 use ssh_keys::KeyKind;
 use ssh_print::{carried_word, moment_text, push_number, push_shown};
@@ -39,12 +40,14 @@ pub(crate) fn push_if(out: &mut Vec<u8>, holds: bool, piece: Piece) -> Result<()
 pub(crate) fn push_numbers(out: &mut Vec<u8>, place: RowPlace) -> Result<(), AllocError>
     ensures { OnOk result (out.new.items ≡ out.old.items ++ marks (row_numbers place)) }
 {
+    let mut digits = Buffer::new();
+    let line = digits.format(place.line).as_bytes();
     push_piece(out, Piece::FileId)?;
     push_number(out, place.file)?;
     push_piece(out, Piece::LineId)?;
-    push_number(out, place.line)?;
+    out.extend_from_slice(line)?;
     push_piece(out, Piece::RowNumber)?;
-    push_number(out, place.line)?;
+    out.extend_from_slice(line)?;
     push_piece(out, Piece::KeyCell)?;
     Ok(())
 }
@@ -159,11 +162,13 @@ fn right_piece(is_on: bool, right: Piece) -> Piece
 fn push_right_marks(out: &mut Vec<u8>, rights: &Rights) -> Result<(), AllocError>
     ensures { OnOk result (out.new.items ≡ out.old.items ++ marks (right_marks rights.now)) }
 {
-    push_piece(out, right_piece(rights.port, Piece::Port))?;
-    push_piece(out, right_piece(rights.agent, Piece::Agent))?;
-    push_piece(out, right_piece(rights.x11, Piece::X11))?;
-    push_piece(out, right_piece(rights.pty, Piece::Pty))?;
-    push_piece(out, right_piece(rights.user_rc, Piece::UserRc))?;
+    out.extend_from_slice(&[
+        right_piece(rights.port, Piece::Port).mark(),
+        right_piece(rights.agent, Piece::Agent).mark(),
+        right_piece(rights.x11, Piece::X11).mark(),
+        right_piece(rights.pty, Piece::Pty).mark(),
+        right_piece(rights.user_rc, Piece::UserRc).mark(),
+    ])?;
     Ok(())
 }
 
