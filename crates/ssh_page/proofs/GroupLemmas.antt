@@ -8,13 +8,14 @@ use Rattle.std.specs.List.Sorted.{ties}
 use Rattle.std.specs.Ordering.{ordering_reverse}
 use Rattle.std.proofs.lemmas.List.Sorted.{IsPermutation-append_left, IsPermutation-append_right, IsPermutation-append_comm, IsPermutation-refl, IsPermutation-trans, ranks_by}
 use Rattle.std.proofs.lemmas.Map.Text.{is_eq-slice_cmp}
+use Rattle.ssh_page.specs.Buckets.{joined}
 use Rattle.ssh_page.specs.KeyGroups.{AreOfOneKey, KeyGroupSeen, alike, by_key, files_before, first_key, group_of, groups_in, has_key, key_before, grouped_rows, put_first, runs}
 use Rattle.ssh_page.specs.KeyRows.{KeyRowSeen}
 use Rattle.ssh_page.specs.Sorting.{in_order, put_before}
 use Rattle.ssh_page.proofs.RunLemmas.{run-first}
 use Rattle.ssh_page.proofs.StableLemmas.{NoneBefore, Rises, rises-in_order, ties-in_order}
 
-key-order : IsStrictWeakOrder key_before
+pub key-order : IsStrictWeakOrder key_before
 key-order = ranks_by nat_list_cmp_total (λ (r : KeyRowSeen). r.key)
 
 -- ---- the same rows, in another order
@@ -40,9 +41,6 @@ order-moves lt f [] = IsPermutation-refl []
 order-moves lt f (x ∷ xs) =
     IsPermutation-trans (f x ++ flat_map f xs) (f x ++ flat_map f (in_order lt xs)) (flat_map f (put_before lt x (in_order lt xs)))
     (IsPermutation-append_right (f x) (flat_map f xs) (flat_map f (in_order lt xs)) (order-moves lt f xs)) (put-moves lt f x (in_order lt xs))
-
-abbrev joined : {X : Type 0} → List (List X) → List X
-joined lists = flat_map (λ l. l) lists
 
 put-joined : (r : KeyRowSeen) (lists : List (List KeyRowSeen)) → joined (put_first r lists) ≡ r ∷ joined lists
 put-joined r [] = refl
@@ -78,7 +76,7 @@ all_listed rows =
 -- ---- the rows of a key
 
 -- two rows tie where they have one key
-tie-key : (w r : KeyRowSeen) → ties key_before w r ≡ has_key w.key r
+pub tie-key : (w r : KeyRowSeen) → ties key_before w r ≡ has_key w.key r
 tie-key w r =
     let back : slice_cmp nat_cmp r.key w.key ≡ ordering_reverse (slice_cmp nat_cmp w.key r.key) = nat_list_cmp_total.antisymm r.key w.key in
     ap (λ o. not (is_lt (slice_cmp nat_cmp w.key r.key)) && not (is_lt o)) back ∙ by (slice_cmp nat_cmp w.key r.key) ∙ ap is_eq (sym back) ∙ is_eq-slice_cmp r.key w.key
@@ -88,11 +86,11 @@ tie-key w r =
     by Equal = refl
     by Greater = refl
 
-same-filter : {X : Type 0} (p q : X → Bool) → ((x : X) → p x ≡ q x) → (xs : List X) → filter p xs ≡ filter q xs
+pub same-filter : {X : Type 0} (p q : X → Bool) → ((x : X) → p x ≡ q x) → (xs : List X) → filter p xs ≡ filter q xs
 same-filter p q h [] = refl
 same-filter p q h (x ∷ xs) = ap (λ b. cond b (x ∷ filter p xs) (filter p xs)) (h x) ∙ ap (λ l. cond (q x) (x ∷ l) l) (same-filter p q h xs)
 
-key-kept : (w : KeyRowSeen) (rows : List KeyRowSeen) → filter (has_key w.key) (by_key rows) ≡ filter (has_key w.key) rows
+pub key-kept : (w : KeyRowSeen) (rows : List KeyRowSeen) → filter (has_key w.key) (by_key rows) ≡ filter (has_key w.key) rows
 key-kept w rows =
     sym (same-filter (ties key_before w) (has_key w.key) (tie-key w) (by_key rows)) ∙ ties-in_order key_before key-order w rows
     ∙ same-filter (ties key_before w) (has_key w.key) (tie-key w) rows
@@ -147,7 +145,7 @@ all-put P lt x (y ∷ ys) own h = go (lt y x) (all-put P lt x ys own h.1)
     go true more = (h.0, more)
     go false more = (own, h)
 
-own-key : (r : KeyRowSeen) → has_key r.key r ≡ true
+pub own-key : (r : KeyRowSeen) → has_key r.key r ≡ true
 own-key r = (bytes_decides r.key r.key).1 refl
 
 -- it keeps its rows with one more row in front that has another key

@@ -20,6 +20,7 @@ pub mod ScanLemmas
 pub mod StableLemmas
 pub mod RunLemmas
 pub mod GroupLemmas
+pub mod BucketLemmas
 pub mod SearchLemmas
 pub mod LimitLemmas
 pub mod KeyRowLemmas

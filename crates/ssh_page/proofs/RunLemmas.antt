@@ -1,18 +1,19 @@
 -- Rows in the order of keys, cut where the key changes.
-use Rattle.std.proofs.Common.{◌≡◌, ◌∙◌, ◌+◌, ◌-◌, ◌^◌, ◌<◌, ℕ, Bool, true, false, cond, List, [], ◌∷◌, ◌++◌, map, length, take, drop, refl, ap, sym, subst, arith, add-one, append_assoc, min, Option, Some, None, MatchOption, option_copied, is_lt, nat_cmp, Bor, IsSortedByKey, take_all, le_refl, eq-eqb}
+use Rattle.std.proofs.Common.{◌≡◌, ◌∙◌, ◌+◌, ◌-◌, ◌^◌, ◌<◌, ℕ, Bool, true, false, not, ◌&&◌, cond, List, [], ◌∷◌, ◌++◌, map, length, take, drop, Ordering, Less, Equal, Greater, refl, ap, sym, subst, true≢false, arith, add-one, append_assoc, min, Option, Some, None, MatchOption, option_copied, is_lt, nat_cmp, Bor, IsSortedByKey, take_all, le_refl, eq-eqb}
 use Rattle.std.specs.Prelude.{bytes_eq}
 use Rattle.std.specs.Cmp.{IsStrictWeakOrder, nat_cmp_total}
-use Rattle.std.specs.Cmp.Lexicographic.{bytes_decides, nat_list_cmp_total, slice_cmp}
-use Rattle.std.specs.List.Sorted.{IsStableByKey}
+use Rattle.std.specs.Cmp.Lexicographic.{bytes_decides, nat_list_cmp_total, slice_cmp, texts_ties}
+use Rattle.std.specs.List.Sorted.{IsStableByKey, ties}
+use Rattle.std.specs.Ordering.{is_eq, ordering_reverse}
 use Rattle.std.specs.Array.{IsFirstChunk}
 use Rattle.std.proofs.lemmas.List.{drop-map, length-map, map-append, take-map, take_min}
 use Rattle.std.proofs.lemmas.List.Sorted.{ranks_by}
 use Rattle.ssh_page.specs.declared.key_groups.KeyGroup.{KeyGroup}
 use Rattle.ssh_page.specs.declared.key_rows.KeyRow.{KeyRow}
-use Rattle.ssh_page.specs.KeyGroups.{alike, by_key, files_before, files_of, group_of, group_seen, key_before, put_first, run_length, runs}
+use Rattle.ssh_page.specs.KeyGroups.{alike, by_key, files_before, files_of, group_of, group_seen, key_before, key_start, put_first, run_length, runs}
 use Rattle.ssh_page.specs.KeyRows.{KeyRowSeen, fingerprint, row_seen}
 use Rattle.ssh_page.specs.Sorting.{in_order}
-use Rattle.ssh_page.proofs.StableLemmas.{in_order-map, sorted_is}
+use Rattle.ssh_page.proofs.StableLemmas.{in_order-map, sorted_is, stable_after, tie-itself}
 
 -- the first rows with one key, and the others
 pub run-first : (r : KeyRowSeen) (rows : List KeyRowSeen)
@@ -58,11 +59,39 @@ run_pushed groups more rows g count some is front files pushed =
 pub key-order : IsStrictWeakOrder (λ (r s : KeyRow). is_lt (slice_cmp nat_cmp r.key s.key))
 key-order = ranks_by nat_list_cmp_total (λ (r : KeyRow). r.key)
 
-pub sorted_rows : (rows sorted : List KeyRow) → IsSortedByKey (λ (r : KeyRow). r.key) (slice_cmp nat_cmp) sorted → IsStableByKey (λ (r : KeyRow). r.key) (slice_cmp nat_cmp) rows sorted
+sorted_rows : (rows sorted : List KeyRow) → IsSortedByKey (λ (r : KeyRow). r.key) (slice_cmp nat_cmp) sorted → IsStableByKey (λ (r : KeyRow). r.key) (slice_cmp nat_cmp) rows sorted
     → map row_seen sorted ≡ by_key (map row_seen rows)
 sorted_rows rows sorted up stable =
     ap (map row_seen) (sorted_is (λ (r s : KeyRow). is_lt (slice_cmp nat_cmp r.key s.key)) key-order rows sorted up stable)
     ∙ in_order-map (λ (r s : KeyRow). is_lt (slice_cmp nat_cmp r.key s.key)) key_before row_seen (λ r s. refl) rows
+
+start-order : IsStrictWeakOrder (λ (r s : KeyRow). is_lt (nat_cmp (key_start r.key) (key_start s.key)))
+start-order = ranks_by nat_cmp_total (λ (r : KeyRow). key_start r.key)
+
+-- of two keys neither of which is before the other
+same-key : (k l : List ℕ) → (not (is_lt (slice_cmp nat_cmp k l)) && not (is_lt (slice_cmp nat_cmp l k))) ≡ true → k ≡ l
+same-key k l e = (bytes_decides k l).0 (texts_ties k l ∙ go (slice_cmp nat_cmp k l) (slice_cmp nat_cmp l k) (nat_list_cmp_total.antisymm l k) e)
+  where
+    go : (o p : Ordering) → p ≡ ordering_reverse o → (not (is_lt o) && not (is_lt p)) ≡ true → is_eq o ≡ true
+    go Less p h e = absurd (true≢false (sym e))
+    go Equal p h e = refl
+    go Greater p h e = absurd (true≢false (sym e ∙ ap (λ q. not (is_lt q)) h))
+
+-- rows with one key have one start
+same-start : (w x : KeyRow) → ties (λ (r s : KeyRow). is_lt (slice_cmp nat_cmp r.key s.key)) w x ≡ true
+    → ties (λ (r s : KeyRow). is_lt (nat_cmp (key_start r.key) (key_start s.key))) w x ≡ true
+same-start w x e =
+    sym (ap (λ k. not (is_lt (nat_cmp (key_start w.key) (key_start k))) && not (is_lt (nat_cmp (key_start k) (key_start w.key)))) (same-key w.key x.key e))
+    ∙ tie-itself (λ (r s : KeyRow). is_lt (nat_cmp (key_start r.key) (key_start s.key))) start-order w
+
+-- a stable sort by the starts of keys, and then one by the keys
+pub twice_sorted : (rows started sorted : List KeyRow) → IsStableByKey (λ (r : KeyRow). key_start r.key) nat_cmp rows started
+    → IsSortedByKey (λ (r : KeyRow). r.key) (slice_cmp nat_cmp) sorted → IsStableByKey (λ (r : KeyRow). r.key) (slice_cmp nat_cmp) started sorted
+    → map row_seen sorted ≡ by_key (map row_seen rows)
+twice_sorted rows started sorted first up second =
+    sorted_rows rows sorted up
+    (stable_after (λ (r s : KeyRow). is_lt (slice_cmp nat_cmp r.key s.key)) (λ (r s : KeyRow). is_lt (nat_cmp (key_start r.key) (key_start s.key)))
+    same-start rows started sorted first second)
 
 files-order : IsStrictWeakOrder (λ (g h : KeyGroup). is_lt (nat_cmp ((2 ^ 64 - 1) - g.files) ((2 ^ 64 - 1) - h.files)))
 files-order = ranks_by nat_cmp_total (λ (g : KeyGroup). (2 ^ 64 - 1) - g.files)

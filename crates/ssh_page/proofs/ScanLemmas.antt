@@ -1,5 +1,5 @@
 -- The rows of a marked text, found by their first piece.
-use Rattle.std.proofs.Common.{◌≡◌, ◌∙◌, ◌+◌, ◌-◌, ◌<◌, ◌≤◌, ◌==◌, ℕ, zero, suc, Bool, true, false, cond, ◌||◌, List, [], ◌∷◌, ◌++◌, length, take, drop, slice_index, Option, Some, None, is_some, option_map, refl, ap, sym, arith, append_assoc, append-nil, add-one, length-drop, take_all}
+use Rattle.std.proofs.Common.{◌≡◌, ◌∙◌, ◌+◌, ◌-◌, ◌<◌, ◌≤◌, ◌==◌, ℕ, zero, suc, Bool, true, false, cond, ◌||◌, List, [], ◌∷◌, ◌++◌, length, take, drop, slice_index, Option, Some, None, is_some, option_map, refl, ap, sym, arith, append-nil, add-one, length-drop, take_all}
 use Rattle.std.specs.List.{prefix_len}
 use Rattle.std.specs.Option.{option_to_list}
 use Rattle.std.proofs.lemmas.List.Sums.{prefix_len-le-length}
@@ -12,7 +12,7 @@ use Rattle.ssh_page.specs.declared.piece.Piece.{Piece}
 use Rattle.ssh_page.specs.declared.piece.Piece.TheVariants as piece
 use Rattle.ssh_page.specs.declared.record.RowPlace.{RowPlace}
 use Rattle.ssh_page.specs.FoundRows.{behind_byte, after_piece, no_row, place_in, places_in, places_read, read_in, row_start}
-use Rattle.ssh_page.specs.KeyRows.{KeyRowSeen, behind, front_text, key_row, print_in, rows_in}
+use Rattle.ssh_page.specs.KeyRows.{behind, front_text, key_row, print_in, rows_in}
 use Rattle.ssh_page.specs.Pieces.{mark}
 use Rattle.ssh_page.specs.RowClasses.{has_piece}
 use Rattle.ssh_page.specs.Shown.{is_printable}
@@ -205,9 +205,9 @@ places_all c text places all none h = sym (append-nil places) ∙ ap (λ l. plac
 
 -- ---- the rows that have a key
 
-rows-found : (text row : List ℕ) → after_piece piece.Row text ≡ Some row → rows_in text ≡ option_to_list (key_row row) ++ rows_in row
-rows-found [] row h = cc
-rows-found (b ∷ text) row h = go (b == mark piece.Row) (λ e. rows-found text row e) h
+pub rows_found : (text row : List ℕ) → after_piece piece.Row text ≡ Some row → rows_in text ≡ option_to_list (key_row row) ++ rows_in row
+rows_found [] row h = cc
+rows_found (b ∷ text) row h = go (b == mark piece.Row) (λ e. rows_found text row e) h
   where
     go : (is : Bool) → (after_piece piece.Row text ≡ Some row → rows_in text ≡ option_to_list (key_row row) ++ rows_in row)
         → cond is (Some text) (after_piece piece.Row text) ≡ Some row
@@ -215,22 +215,11 @@ rows-found (b ∷ text) row h = go (b == mark piece.Row) (λ e. rows-found text 
     go true later e = ap (λ t. option_to_list (key_row t) ++ rows_in t) (same-text text row e)
     go false later e = later e
 
-rows-none : (text : List ℕ) → after_piece piece.Row text ≡ None → rows_in text ≡ []
-rows-none [] h = refl
-rows-none (b ∷ text) h = go (b == mark piece.Row) (λ e. rows-none text e) h
+pub rows_none : (text : List ℕ) → after_piece piece.Row text ≡ None → rows_in text ≡ []
+rows_none [] h = refl
+rows_none (b ∷ text) h = go (b == mark piece.Row) (λ e. rows_none text e) h
   where
     go : (is : Bool) → (after_piece piece.Row text ≡ None → rows_in text ≡ [])
         → cond is (Some text) (after_piece piece.Row text) ≡ None → cond is (option_to_list (key_row text)) [] ++ rows_in text ≡ []
     go true later e = cc
     go false later e = later e
-
--- behind one more row
-pub rows_behind : (text row : List ℕ) (rows more all : List KeyRowSeen) → Some row ≡ after_piece piece.Row text
-    → more ≡ rows ++ option_to_list (key_row row) → rows ++ rows_in text ≡ all → more ++ rows_in row ≡ all
-rows_behind text row rows more all at pushed h =
-    ap (λ l. l ++ rows_in row) pushed ∙ append_assoc rows (option_to_list (key_row row)) (rows_in row)
-    ∙ ap (λ l. rows ++ l) (sym (rows-found text row (sym at))) ∙ h
-
--- behind the last row
-pub rows_all : (text : List ℕ) (rows all : List KeyRowSeen) → None ≡ after_piece piece.Row text → rows ++ rows_in text ≡ all → rows ≡ all
-rows_all text rows all none h = sym (append-nil rows) ∙ ap (λ l. rows ++ l) (sym (rows-none text (sym none))) ∙ h

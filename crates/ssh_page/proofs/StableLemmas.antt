@@ -43,7 +43,7 @@ not-before-itself lt o x = go (lt x x) refl
     go true e = o.one_way x x e
     go false e = e
 
-tie-itself : {X : Type 0} (lt : X → X → Bool) → IsStrictWeakOrder lt → (x : X) → ties lt x x ≡ true
+pub tie-itself : {X : Type 0} (lt : X → X → Bool) → IsStrictWeakOrder lt → (x : X) → ties lt x x ≡ true
 tie-itself lt o x = let no = not-before-itself lt o x in ap (λ b. not b && not b) no
 
 none-by : {X : Type 0} (lt : X → X → Bool) (x : X) (ys : List X) → ((k : ℕ) (d : X) → k < length ys → lt (get_or ys k d) x ≡ false) → NoneBefore lt x ys
@@ -101,7 +101,7 @@ firsts-tie lt o y z ys zs first second same = go (ties lt y z) refl
     go false e = e ∙ by (lt y z) (lt z y) e from-second from-first
 
 -- two lists that rise are the same, if what ties with an element is the same in both
-unique : {X : Type 0} (lt : X → X → Bool) → IsStrictWeakOrder lt → (ys zs : List X) → Rises lt ys → Rises lt zs
+pub unique : {X : Type 0} (lt : X → X → Bool) → IsStrictWeakOrder lt → (ys zs : List X) → Rises lt ys → Rises lt zs
     → ((x : X) → filter (ties lt x) ys ≡ filter (ties lt x) zs) → ys ≡ zs
 unique lt o [] [] first second same = refl
 unique lt o [] (z ∷ zs) first second same =
@@ -201,3 +201,22 @@ pub in_order-map : {X Y : Type 0} (lt : X → X → Bool) (other : Y → Y → B
     → map f (in_order lt xs) ≡ in_order other (map f xs)
 in_order-map lt other f h [] = refl
 in_order-map lt other f h (x ∷ xs) = put-map lt other f h x (in_order lt xs) ∙ ap (put_before other (f x)) (in_order-map lt other f h xs)
+
+-- ---- after another sort
+
+-- of those that a test keeps, what a stricter test keeps
+kept-twice : {X : Type 0} (p q : X → Bool) → ((x : X) → p x ≡ true → q x ≡ true) → (xs : List X) → filter p (filter q xs) ≡ filter p xs
+kept-twice p q h [] = refl
+kept-twice {X} p q h (x ∷ xs) = go (q x) (p x) refl (h x) (kept-twice p q h xs)
+  where
+    go : (a b : Bool) → p x ≡ b → (b ≡ true → a ≡ true) → filter p (filter q xs) ≡ filter p xs
+        → filter p (cond a (x ∷ filter q xs) (filter q xs)) ≡ cond b (x ∷ filter p xs) (filter p xs)
+    go true b e k more = ap (λ c. cond c (x ∷ filter p (filter q xs)) (filter p (filter q xs))) e ∙ ap (λ l. cond b (x ∷ l) l) more
+    go false true e k more = absurd (true≢false (sym (k refl)))
+    go false false e k more = more
+
+-- two stable sorts are one, if what ties in the second ties in the first
+pub stable_after : {X : Type 0} (lt other : X → X → Bool) → ((w x : X) → ties lt w x ≡ true → ties other w x ≡ true) → (xs ys zs : List X)
+    → IsStableBy other xs ys → IsStableBy lt ys zs → IsStableBy lt xs zs
+stable_after lt other h xs ys zs first second w =
+    second w ∙ sym (kept-twice (ties lt w) (ties other w) (h w) ys) ∙ ap (filter (ties lt w)) (first w) ∙ kept-twice (ties lt w) (ties other w) (h w) xs

@@ -1,6 +1,7 @@
 -- The rows that have a key, those with one key together (this project's rule).
-use Rattle.std.specs.Prelude.{◌≡◌, ◌<◌, ◌+◌, ◌∷◌, [], ◌-◌, ◌^◌, ◌==◌, ℕ, Bool, false, List, length, map, filter, Option, Some, None, bytes_eq, if◌then◌else◌}
+use Rattle.std.specs.Prelude.{◌≡◌, ◌<◌, ◌+◌, ◌∷◌, [], ◌-◌, ◌^◌, ◌==◌, ℕ, Bool, false, List, length, map, filter, take, Option, Some, None, bytes_eq, if◌then◌else◌}
 use Rattle.std.specs.Cmp.Lexicographic.{slice_cmp}
+use Rattle.std.specs.Int.{from_be_bytes, w64}
 use Rattle.std.specs.List.{flat_map, fold}
 use Rattle.std.specs.Ordering.{is_lt, nat_cmp}
 use Rattle.ssh_findings.specs.CodeCounts.{sum_within}
@@ -18,6 +19,10 @@ key_before r s = is_lt (slice_cmp nat_cmp r.key s.key)
 -- in the order of keys; those with one key stay in their order
 abbrev pub by_key : List KeyRowSeen → List KeyRowSeen
 by_key rows = in_order key_before rows
+
+-- the number that the first eight characters of a key spell
+abbrev pub key_start : List ℕ → ℕ
+key_start key = from_be_bytes w64 (take 8 key)
 
 -- how many rows at the front have this key
 abbrev pub alike : List ℕ → List KeyRowSeen → ℕ

@@ -18,6 +18,7 @@ pub mod KeyRows
 pub mod KeyGroups
 pub mod KeyLists
 pub mod Sorting
+pub mod Buckets
 pub mod Mending
 pub mod Choices
 pub mod Pages

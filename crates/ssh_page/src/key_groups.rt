@@ -1,14 +1,13 @@
 //! The rows that have a key, those with one key together, and the keys in most files first.
 
-ghost use Rattle.std.specs.Prelude.{◌≡◌, ◌≤◌, ◌<◌, ◌++◌, ◌-◌, ◌^◌, IfOk, drop, length, map};
-ghost use Rattle.std.specs.Cmp.Lexicographic.{slice_cmp};
-ghost use Rattle.std.specs.Ordering.{nat_cmp};
-ghost use Rattle.ssh_page.specs.KeyGroups.{by_key, files_of, group_of, group_seen, groups_in, is_last, run_length, runs, with_file};
-ghost use Rattle.ssh_page.specs.KeyRows.{row_seen, rows_in};
+ghost use Rattle.std.specs.Prelude.{◌≡◌, ◌≤◌, ◌<◌, ◌++◌, ◌-◌, ◌^◌, IfOk, OnOk, drop, length, map};
+ghost use Rattle.ssh_page.specs.Buckets.{bucket_seen, joined};
+ghost use Rattle.ssh_page.specs.KeyGroups.{files_before, files_of, group_of, group_seen, is_last, run_length, runs, with_file};
+ghost use Rattle.ssh_page.specs.KeyRows.{row_seen};
+ghost use Rattle.ssh_page.specs.Sorting.{in_order};
 
-use crate::key_rows::{KeyRow, rows_in};
+use crate::key_rows::KeyRow;
 use std::alloc::{AllocError, Global};
-use std::cmp::Ordering;
 
 /// The rows of a key.
 #[derive(Clone, Copy, Debug)]
@@ -62,19 +61,6 @@ fn files_of(rows: &[KeyRow<'_>]) -> u64
     seen.count
 }
 
-/// The rows of sections in marked text that have a key, in the order of keys.
-pub(crate) fn rows_by_key(alloc: Global, sections: &[u8]) -> Result<Vec<KeyRow<'_>>, AllocError>
-    ensures { IfOk result (λ rows. map row_seen rows.items ≡ by_key (rows_in sections.now)) }
-{
-    let mut rows = rows_in(alloc, sections)?;
-    rows.sort_by(
-        |one: &KeyRow<'_>, other: &KeyRow<'_>| -> Ordering
-            ensures { result ≡ slice_cmp nat_cmp one.now.key other.now.key }
-        { one.key.cmp(&other.key) },
-    )?;
-    Ok(rows)
-}
-
 /// How many rows at the front have the key of the first.
 fn run_length(rows: &[KeyRow<'_>]) -> usize
     ensures value { result ≡ run_length (map row_seen rows.now) }
@@ -115,28 +101,46 @@ fn push_run<'r, 'a>(
     Ok(count)
 }
 
-/// The rows of each key, of rows in the order of keys.
-fn runs<'r, 'a>(alloc: Global, rows: &'r [KeyRow<'a>]) -> Result<Vec<KeyGroup<'r, 'a>>, AllocError>
-    ensures { IfOk result (λ groups. map group_seen groups.items
-        ≡ map group_of (runs (map row_seen rows.now))) }
+/// Appends the rows of each key, of rows in the order of keys.
+fn push_runs<'r, 'a>(
+    groups: &mut Vec<KeyGroup<'r, 'a>>,
+    rows: &'r [KeyRow<'a>],
+) -> Result<(), AllocError>
+    ensures { OnOk result (map group_seen groups.new.items
+        ≡ map group_seen groups.old.items ++ map group_of (runs (map row_seen rows.now))) }
 {
-    let mut groups = Vec::new(alloc);
     let mut start = 0;
     while start < rows.len() {
-        start += push_run(&mut groups, rows.split_at(start).1)?;
+        start += push_run(groups, rows.split_at(start).1)?;
+    }
+    Ok(())
+}
+
+/// The rows of each key, of buckets with rows in the order of keys.
+fn runs<'r, 'a>(
+    alloc: Global,
+    buckets: &'r [Vec<KeyRow<'a>>],
+) -> Result<Vec<KeyGroup<'r, 'a>>, AllocError>
+    ensures { IfOk result (λ groups. map group_seen groups.items
+        ≡ map group_of (joined (map runs (map bucket_seen buckets.now)))) }
+{
+    let mut groups = Vec::new(alloc);
+    for bucket in buckets {
+        push_runs(&mut groups, bucket)?;
     }
     Ok(groups)
 }
 
-/// The rows of each key, of rows in the order of keys. Those that are in most files come first.
+/// The rows of each key, of buckets with rows in the order of keys, no two of which have rows of one
+/// key. Those that are in most files come first.
 pub(crate) fn groups_in<'r, 'a>(
     alloc: Global,
-    rows: &'r [KeyRow<'a>],
+    buckets: &'r [Vec<KeyRow<'a>>],
 ) -> Result<Vec<KeyGroup<'r, 'a>>, AllocError>
     ensures { IfOk result (λ groups. map group_seen groups.items
-        ≡ groups_in (map row_seen rows.now)) }
+        ≡ in_order files_before (map group_of (joined (map runs (map bucket_seen buckets.now))))) }
 {
-    let mut groups = runs(alloc, rows)?;
+    let mut groups = runs(alloc, buckets)?;
     groups.sort_by_key(
         |group: &KeyGroup<'_, '_>| -> u64
             ensures { result ≡ (2 ^ 64 - 1) - group.now.files }

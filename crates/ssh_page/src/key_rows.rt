@@ -2,9 +2,8 @@
 //! is, its fingerprint, and whether its rights are limited. So no memory is needed for them while files
 //! are read.
 
-ghost use Rattle.std.specs.Prelude.{◌≡◌, ◌++◌, IfOk, OnOk, map, option_map};
-ghost use Rattle.std.specs.Option.{option_to_list};
-ghost use Rattle.ssh_page.specs.KeyRows.{behind, fingerprint, free_pieces, front_text, has_front, has_rights, is_limited, key_row, cell_comment, number_of, print_in, row_place, row_seen, rows_in};
+ghost use Rattle.std.specs.Prelude.{◌≡◌, option_map};
+ghost use Rattle.ssh_page.specs.KeyRows.{behind, fingerprint, free_pieces, front_text, has_front, has_rights, is_limited, key_row, cell_comment, number_of, print_in, row_place, row_seen};
 ghost use Rattle.ssh_page.specs.Shown.{is_printable};
 
 use crate::found_rows::{after_piece, with_digit};
@@ -12,7 +11,6 @@ use crate::piece::Piece;
 use crate::record::RowPlace;
 use memchr::memchr2;
 use ssh_print::{ByteClass, class_len, first_set};
-use std::alloc::{AllocError, Global};
 use std::simd::prelude::*;
 
 /// A row that has a key.
@@ -174,7 +172,7 @@ fn is_limited(cell: &[u8]) -> bool
 }
 
 /// The row whose first piece stands in front of this, if it has a key.
-fn key_row(marks: &[u8]) -> Option<KeyRow<'_>>
+pub(crate) fn key_row(marks: &[u8]) -> Option<KeyRow<'_>>
     ensures { option_map row_seen result ≡ key_row marks.now }
 {
     let cell = behind(marks, Piece::KeyCell);
@@ -187,31 +185,4 @@ fn key_row(marks: &[u8]) -> Option<KeyRow<'_>>
         }),
         None => None,
     }
-}
-
-/// Appends the row whose first piece stands in front of this, if it has a key.
-fn push_row<'a>(rows: &mut Vec<KeyRow<'a>>, row: &'a [u8]) -> Result<(), AllocError>
-    ensures { OnOk result (map row_seen rows.new.items
-        ≡ map row_seen rows.old.items ++ option_to_list (key_row row.now)) }
-{
-    match key_row(row) {
-        Some(row) => {
-            rows.push(row)?;
-            Ok(())
-        }
-        None => Ok(()),
-    }
-}
-
-/// The rows of sections in marked text that have a key, in their order.
-pub(crate) fn rows_in(alloc: Global, sections: &[u8]) -> Result<Vec<KeyRow<'_>>, AllocError>
-    ensures { IfOk result (λ rows. map row_seen rows.items ≡ rows_in sections.now) }
-{
-    let mut rows = Vec::new(alloc);
-    let mut rest = sections;
-    while let Some(row) = after_piece(rest, Piece::Row) {
-        push_row(&mut rows, row)?;
-        rest = row;
-    }
-    Ok(rows)
 }

@@ -9,7 +9,8 @@ ghost use Rattle.ssh_page.specs.KeyRows.{row_seen};
 ghost use Rattle.ssh_page.specs.Places.{lines_seen};
 
 use crate::header::push_how_many;
-use crate::key_groups::{KeyGroup, groups_in, rows_by_key};
+use crate::key_buckets::{count_rows, rows_by_key};
+use crate::key_groups::{KeyGroup, groups_in};
 use crate::key_picture::push_picture;
 use crate::key_rows::KeyRow;
 use crate::marks::{push_copied, push_piece};
@@ -202,7 +203,7 @@ fn push_key_list(
 pub fn push_keys(alloc: Global, out: &mut Vec<u8>, lines: &PageLines<'_>) -> Result<(), AllocError>
     ensures { OnOk result (out.new.items ≡ out.old.items ++ marks (keys (lines_seen lines.entry.now))) }
 {
-    let rows = rows_by_key(alloc, lines.sections)?;
-    let groups = groups_in(alloc, &rows)?;
-    push_key_list(alloc, out, lines.names, rows.len() as u64, &groups)
+    let buckets = rows_by_key(alloc, lines.sections)?;
+    let groups = groups_in(alloc, &buckets)?;
+    push_key_list(alloc, out, lines.names, count_rows(&buckets), &groups)
 }

@@ -24,6 +24,7 @@ mod finding;
 mod found_rows;
 mod header;
 mod host_record;
+mod key_buckets;
 mod key_groups;
 mod key_picture;
 mod key_rows;
