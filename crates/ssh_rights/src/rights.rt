@@ -1,10 +1,12 @@
 //! What an admitted login may do: rights, forced command and other options of its line, and what
 //! its security key must have done.
 
-ghost use Rattle.std.specs.Prelude.{◌≡◌, ◌++◌, [], IfOk, IsOk, None, OnOk, option_copied};
+ghost use Rattle.std.specs.Prelude.{◌≡◌, ◌++◌, ◌&&◌, [], ◌∷◌, IfOk, IsOk, None, OnOk, option_copied};
 ghost use Rattle.ssh_options.specs.OptionsInLine.{option_in_line};
 ghost use Rattle.ssh_offers.specs.OfferView.{offer_of};
-ghost use Rattle.ssh_rights.specs.Rights.{effect_on, has_right, is_on, permit_of, certificate_permits, turns_off, turns_on, carried_name, carried_of, carried_texts, command_of, forced_by_offer, rights_of};
+ghost use Rattle.ssh_rights.specs.Rights.{effect_on, is_on, last_word, permit_of, certificate_permits, turns_off, turns_on, carried_name, carried_of, carried_texts, command_of, forced_by_offer, rights_of};
+ghost use Rattle.ssh_rights.specs.RightsOn.{on_after};
+ghost use Rattle.ssh_rights.specs.declared.rights.Right.TheVariants.{Port, Agent, X11, Pty, UserRc};
 ghost use Rattle.ssh_options.specs.Settings.{setting};
 ghost use Rattle.ssh_options.specs.declared.option.ValueName.TheVariants.{Command};
 ghost use Rattle.ssh_offers.specs.ClaimViews.{claim_of};
@@ -80,16 +82,11 @@ impl Right {
         }
     }
 
-    /// Whether the options leave the right on. It is on at first, and the last option that turns it
-    /// on or off wins.
-    fn is_on(self, options: OptionsView<'_>) -> bool
-        ensures { result ≡ is_on self options.entry }
+    /// Whether the right is on after one more option.
+    fn is_on_after(self, before: bool, option: &OptionView<'_>) -> bool
+        ensures { result ≡ last_word self before (option_in_line option.now ∷ []) }
     {
-        let mut on = true;
-        for option in options {
-            on = self.effect(&option).unwrap_or(on);
-        }
-        on
+        self.effect(option).unwrap_or(before)
     }
 
     /// Whether the offer gives the right: a plain key always, a certificate by its extension.
@@ -102,11 +99,58 @@ impl Right {
         }
     }
 
-    /// Whether a login by these options and this offer has the right.
-    pub(crate) fn holds(self, options: OptionsView<'_>, offer: &Offer<'_>) -> bool
-        ensures { result ≡ has_right self options.entry (offer_of offer.now) }
+    /// Whether a login has the right that its line leaves on or not.
+    fn holds(self, is_on: bool, offer: &Offer<'_>) -> bool
+        ensures { result ≡ (is_on && certificate_permits self (offer_of offer.now)) }
     {
-        self.is_on(options) && self.is_permitted(offer)
+        is_on && self.is_permitted(offer)
+    }
+}
+
+/// Which rights the options of a line leave on.
+#[derive(Clone, Copy)]
+struct RightsOn {
+    port: bool,
+    agent: bool,
+    x11: bool,
+    pty: bool,
+    user_rc: bool,
+}
+
+impl RightsOn {
+    /// Takes the next option into account.
+    fn after(self, option: &OptionView<'_>) -> RightsOn
+        ensures { result ≡ on_after self (option_in_line option.now ∷ []) }
+    {
+        RightsOn {
+            port: Right::Port.is_on_after(self.port, option),
+            agent: Right::Agent.is_on_after(self.agent, option),
+            x11: Right::X11.is_on_after(self.x11, option),
+            pty: Right::Pty.is_on_after(self.pty, option),
+            user_rc: Right::UserRc.is_on_after(self.user_rc, option),
+        }
+    }
+
+    /// The rights that are left on, found in one walk through the options. Each is on at first, and
+    /// the last option that turns it on or off wins.
+    fn of(options: OptionsView<'_>) -> RightsOn
+        ensures port { result.port ≡ is_on Port options.entry }
+        ensures agent { result.agent ≡ is_on Agent options.entry }
+        ensures x11 { result.x11 ≡ is_on X11 options.entry }
+        ensures pty { result.pty ≡ is_on Pty options.entry }
+        ensures user_rc { result.user_rc ≡ is_on UserRc options.entry }
+    {
+        let mut on = RightsOn {
+            port: true,
+            agent: true,
+            x11: true,
+            pty: true,
+            user_rc: true,
+        };
+        for option in options {
+            on = on.after(&option);
+        }
+        on
     }
 }
 
@@ -264,12 +308,13 @@ pub fn rights_of(
 {
     let carried = carried_texts(alloc, entry.options())?;
     let command = command(alloc, line_command(entry), offer)?;
+    let on = RightsOn::of(entry.options());
     Ok(Rights {
-        port: Right::Port.holds(entry.options(), offer),
-        agent: Right::Agent.holds(entry.options(), offer),
-        x11: Right::X11.holds(entry.options(), offer),
-        pty: Right::Pty.holds(entry.options(), offer),
-        user_rc: Right::UserRc.holds(entry.options(), offer),
+        port: Right::Port.holds(on.port, offer),
+        agent: Right::Agent.holds(on.agent, offer),
+        x11: Right::X11.holds(on.x11, offer),
+        pty: Right::Pty.holds(on.pty, offer),
+        user_rc: Right::UserRc.holds(on.user_rc, offer),
         command,
         carried,
     })
