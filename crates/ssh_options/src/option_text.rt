@@ -136,7 +136,7 @@ pub(crate) fn unescape(alloc: Global, quoted: &[u8]) -> Result<Bytes, AllocError
     ensures value { IfOk result (λ value. value ≡ unescaped quoted.now) }
     ensures spare { length quoted.now ≡ 0 → IsOk result }
 {
-    let mut value = Vec::new(alloc);
+    let mut value = Vec::with_capacity(alloc, quoted.len())?;
     for (i, byte) in quoted.iter().enumerate() {
         if *byte == b'\\' && begins_with_quote(&quoted[i + 1..]) {
             continue;
