@@ -1,5 +1,6 @@
 pub mod Imports
 pub mod SizeLemmas
+pub mod FactLemmas
 pub mod ListLemmas
 pub mod ShadowLemmas
 pub mod KeepingLemmas

@@ -2,7 +2,7 @@
 
 ghost use Rattle.std.specs.Prelude.{◌≡◌, IfOk};
 ghost use Rattle.jiff.specs.Words.{plain_zone};
-ghost use Rattle.ssh_options.specs.Settings.{settings, setting};
+ghost use Rattle.ssh_options.specs.Settings.{settings};
 ghost use Rattle.ssh_options.specs.declared.option.ValueName.TheVariants.{ExpiryTime};
 ghost use Rattle.ssh_findings.specs.Moments.{earlier, has_local_time, is_known_past, until};
 ghost use Rattle.ssh_keys.specs.KeyOf.{key_of};
@@ -13,7 +13,7 @@ use jiff::tz::TimeZone;
 use ssh_entries::AuthEntryView;
 use ssh_keys::{KeyKind, KeyView, rsa_bits};
 use ssh_offers::Offer;
-use ssh_options::{Flag, ValueName, expiry};
+use ssh_options::{LineOptions, ValueView, expiry};
 use ssh_rights::{Rights, rights_of};
 use ssh_text::{Bytes, ends_with};
 use std::alloc::{AllocError, Global};
@@ -115,15 +115,11 @@ pub(crate) fn rsa_size(key: &KeyView<'_>) -> Option<u32>
     rsa_bits(key)
 }
 
-/// A copy of the value of an option that is allowed once.
-fn setting(
-    alloc: Global,
-    name: ValueName,
-    entry: &AuthEntryView<'_>,
-) -> Result<Option<Bytes>, AllocError>
-    ensures { IfOk result (λ value. value ≡ setting name entry.now.options) }
+/// A copy of a value, if there is one.
+fn copied(alloc: Global, value: &Option<ValueView<'_>>) -> Result<Option<Bytes>, AllocError>
+    ensures { IfOk result (λ copy. copy ≡ value.now) }
 {
-    match entry.settings(name).next() {
+    match value {
         None => Ok(None),
         Some(value) => {
             let text = value.to_bytes(alloc)?;
@@ -150,7 +146,7 @@ fn comment(alloc: Global, entry: &AuthEntryView<'_>) -> Result<Bytes, AllocError
 
 impl Facts {
     /// Reads the facts of an entry. The zone is that of expiry times without `Z`.
-    #[tactic(auto, unfolding(crate::specs::Facts::facts_of))]
+    #[tactic(auto, unfolding(crate::specs::Facts::facts_of), using(crate::proofs::FactLemmas::never_until, crate::proofs::FactLemmas::never_local))]
     pub fn read(
         alloc: Global,
         zone: &TimeZone<'_>,
@@ -162,22 +158,26 @@ impl Facts {
         let fingerprint = fingerprint_read(alloc, &key, entry.blob())?;
         let comment = comment(alloc, entry)?;
         let rights = plain_rights(alloc, entry)?;
-        let from = setting(alloc, ValueName::From, entry)?;
-        let principals = setting(alloc, ValueName::Principals, entry)?;
-        let until = until(alloc, zone, entry)?;
-        let has_local_time = has_local_time(alloc, entry)?;
+        let options = LineOptions::of(entry.options());
+        let from = copied(alloc, &options.from)?;
+        let principals = copied(alloc, &options.principals)?;
+        let (until, has_local_time) = if options.expires {
+            (until(alloc, zone, entry)?, has_local_time(alloc, entry)?)
+        } else {
+            (None, false)
+        };
         Ok(Facts {
             kind: key.kind(),
             bits: rsa_size(&key),
             fingerprint,
             comment,
-            is_authority: entry.has_flag(Flag::CertAuthority),
+            is_authority: options.authority,
             rights,
-            no_touch_required: entry.has_flag(Flag::NoTouchRequired),
-            verify_required: entry.has_flag(Flag::VerifyRequired),
+            no_touch_required: options.no_touch_required,
+            verify_required: options.verify_required,
             from,
             principals,
-            has_expiry: entry.expiry_texts().next().is_some(),
+            has_expiry: options.expires,
             until,
             has_local_time,
         })

@@ -9,6 +9,7 @@ pub mod QuoteLemmas
 pub mod ReadOptions
 pub mod EscapeLemmas
 pub mod SeenLemmas
+pub mod LineOptionLemmas
 pub mod InLineLemmas
 pub mod OptionFaultLemmas
 pub mod ExpiryLemmas

@@ -5,6 +5,7 @@ pub mod OptionTexts
 pub mod OptionsInPlace
 pub mod OptionsInLine
 pub mod Settings
+pub mod LineOptions
 pub mod SameOptions
 pub mod SameLaws
 pub mod OptionFaults

@@ -26,6 +26,7 @@
 #![tactic(auto)]
 
 mod expiry_time;
+mod line_options;
 mod option;
 mod option_text;
 mod options_view;
@@ -33,6 +34,7 @@ mod samples;
 mod value_view;
 
 pub use expiry_time::{epoch, expiry, is_expiry_text};
+pub use line_options::LineOptions;
 pub use option::{Flag, ValueName};
 pub use option_text::LineCause;
 pub use options_view::{OptionView, OptionsView, SettingViews};

@@ -31,13 +31,10 @@ pub use Rattle.ssh_offers.specs.Query.{Login}
 pub use Rattle.ssh_offers.specs.declared.claim.EmptyPrincipals.{EmptyPrincipals}
 pub use Rattle.ssh_offers.specs.declared.claim.EmptyPrincipals.TheVariants.{Any, Never}
 pub use Rattle.ssh_options.proofs.MomentLemmas.{moment-is, moment-only}
-pub use Rattle.ssh_options.specs.AuthOption.{AuthOption, Setting, Switch}
 pub use Rattle.ssh_options.specs.Expiry.{IsMoment}
 pub use Rattle.ssh_options.specs.Moment.{moment_of}
-pub use Rattle.ssh_options.specs.OptionNames.{same_flag, same_value_name}
 pub use Rattle.ssh_options.specs.OptionsInPlace.{has_quote}
-pub use Rattle.ssh_options.specs.Settings.{setting, settings, first_of, has_flag}
-pub use Rattle.ssh_options.specs.declared.option.Flag.TheVariants.{CertAuthority}
+pub use Rattle.ssh_options.specs.Settings.{setting, settings}
 pub use Rattle.ssh_options.specs.declared.option.ValueName.TheVariants.{Principals, ExpiryTime, From, Command}
 pub use Rattle.ssh_patterns.proofs.AddressLaw.{address-read}
 pub use Rattle.ssh_patterns.proofs.MatchLemmas.{or_left, or_right}
@@ -52,11 +49,9 @@ pub use Rattle.ssh_rules.specs.CertificateForce.{user_certificate, InForce, forc
 pub use Rattle.ssh_rules.specs.CertificateRules.{has_two, first_unknown, has_its_form, has_repeats, fits_known, is_known, certificate_source_by, has_principal, is_listed, listed_names, serves, is_among}
 pub use Rattle.ssh_rules.specs.KeyNeedle.{Holds, AdmitsNothing, HoldsPiece, piece_place, piece_of}
 pub use Rattle.ssh_rules.specs.KeySizes.{AreLongEnough, has_short_key}
-pub use Rattle.ssh_rules.specs.LineOptions.{noted_after}
 pub use Rattle.ssh_rules.specs.Mismatches.{first_mismatch, or_later, role_row, size_row, key_row, unknown_row, permit_row, time_row, when}
 pub use Rattle.ssh_rules.specs.Spare.{is_escaped, is_named, has_escaped, is_about, is_in_role, needs_memory, owns_name}
 pub use Rattle.ssh_rules.specs.Verdict.{verdict_by, login_verdict}
-pub use Rattle.ssh_rules.specs.declared.options.LineOptions.{LineOptions}
 pub use Rattle.ssh_rules.specs.declared.reason.Mismatch.{Mismatch}
 pub use Rattle.ssh_rules.specs.declared.reason.Reason.{Reason}
 pub use Rattle.std.proofs.Common.{◌≡◌, false, true, refl, None, List, Option, ℕ, Some, Bool, ◌∙◌, sym, ◌∷◌, ◌||◌, [], ap, length, subst, arith, ◌==◌, rules, ◌≤◌, nat_lt, ◌<◌, inl, inr, not, ◌&&◌, ◌-◌, ◌*◌, ◌/◌, ◌%◌, ◌+◌, ◌++◌, take, drop, append_assoc, ◌⊎◌, zero, suc}
@@ -69,6 +64,5 @@ pub use Rattle.std.proofs.lemmas.Slice.Eq.{bytes_eq-Decides}
 pub use Rattle.std.specs.Bool.{Decides}
 pub use Rattle.std.specs.Int.Signed.{le_z, le_z_yes}
 pub use Rattle.std.specs.List.{list_any, AllByRecursion, list_all, slice_index_or}
-pub use Rattle.std.specs.Option.{option_or}
 pub use Rattle.std.specs.Prelude.{is_some, ◌↔◌, IsTrue, ℤ, ◌≤ℤ◌, pos, ◌≢◌, if◌then◌else◌, Contains, T, nat_le, IfSome}
 pub use Rattle.std.specs.Str.{bytes_eq}

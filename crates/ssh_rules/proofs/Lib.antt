@@ -5,7 +5,6 @@ pub mod ForceLemmas
 pub mod SizeLemmas
 pub mod SourceLemmas
 pub mod CriticalLemmas
-pub mod LineOptionLemmas
 pub mod AdmissionLemmas
 pub mod KeyPieceLemmas
 pub mod SpareLemmas

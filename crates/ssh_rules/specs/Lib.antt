@@ -3,7 +3,6 @@ pub mod KeySizes
 pub mod Mismatches
 pub mod CertificateForce
 pub mod Admission
-pub mod LineOptions
 pub mod Judged
 pub mod ValueText
 pub mod Verdict

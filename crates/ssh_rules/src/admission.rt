@@ -23,14 +23,14 @@ ghost use Rattle.ssh_offers.specs.ClaimViews.{claim_of};
 
 use crate::certificate::{CheckedCertificate, has_listed};
 use crate::login_matcher::LoginMatcher;
-use crate::options::{LineOptions, ValueText};
+use crate::options::ValueText;
 use crate::reason::{
     Mismatch, Reason, period_mismatch, permit_mismatch, principal_mismatch, role_mismatch,
     size_mismatch,
 };
 use ssh_entries::{AuthEntryView, AuthLineView};
 use ssh_offers::{LoginClaimView, LoginQuery};
-use ssh_options::{SettingViews, ValueView, expiry};
+use ssh_options::{LineOptions, SettingViews, ValueView, expiry};
 use ssh_patterns::{Permit, source_list_counted};
 use std::alloc::{AllocError, Global};
 use std::marker::Model;
@@ -146,7 +146,7 @@ impl<'a> Model for IndexedEntry<'a> {
     ghost view = { λ s. s.entry.now };
 
     ghost invariant = { λ s. (s.options.authority ≡ is_authority s.entry.now)
-        × (s.options.source ≡ setting From s.entry.now.options)
+        × (s.options.from ≡ setting From s.entry.now.options)
         × (s.options.principals ≡ setting Principals s.entry.now.options)
         × (s.options.command ≡ setting Command s.entry.now.options)
         × (s.options.expires ≡ is_some (setting ExpiryTime s.entry.now.options)) };
@@ -166,7 +166,7 @@ impl<'a> IndexedEntry<'a> {
     /// The options that a login asks for.
     pub(crate) fn options(&self) -> &LineOptions<'a>
         ensures authority { result.now.authority ≡ is_authority self.now }
-        ensures source { result.now.source ≡ setting From self.now.options }
+        ensures from { result.now.from ≡ setting From self.now.options }
         ensures principals { result.now.principals ≡ setting Principals self.now.options }
         ensures command { result.now.command ≡ setting Command self.now.options }
         ensures expires { result.now.expires ≡ is_some (setting ExpiryTime self.now.options) }
@@ -248,7 +248,7 @@ fn line_source(
     ensures most { IfOk result (λ found.
         found.1 ≤ source_most (setting From entry.now.options) (claim_of claim.now).query) }
 {
-    let Some(value) = &entry.options().source else {
+    let Some(value) = &entry.options().from else {
         return Ok((Permit::Yes, 0));
     };
     let list = ValueText::new(alloc, value)?;

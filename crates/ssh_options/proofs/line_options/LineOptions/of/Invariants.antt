@@ -1,6 +1,6 @@
-use Rattle.ssh_rules.proofs.Imports.{◌≡◌, noted_after}
-use Rattle.ssh_rules.proofs.LineOptionLemmas.{none_noted}
-use Rattle.ssh_rules.proofs.options.LineOptions.of.Given as goal
+use Rattle.ssh_options.proofs.Imports.{◌≡◌, noted_after}
+use Rattle.ssh_options.proofs.LineOptionLemmas.{none_noted}
+use Rattle.ssh_options.proofs.line_options.LineOptions.of.Given as goal
 
 abbrev pub invariant-loop-option : goal.invariant-loop-option
 invariant-loop-option l =

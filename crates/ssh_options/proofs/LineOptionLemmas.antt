@@ -1,10 +1,17 @@
 -- What is noted of options one by one is what is noted of all.
-use Rattle.ssh_rules.proofs.Imports.{◌≡◌, ◌||◌, Bool, true, false, List, [], ◌∷◌, Option, Some, None, refl, if◌then◌else◌, is_some, option_or, AuthOption, Setting, Switch, CertAuthority, Command, ExpiryTime, From, Principals, same_flag, same_value_name, first_of, has_flag, setting, settings, LineOptions, noted_after}
-use Rattle.std.specs.Prelude.{ℕ}
+use Rattle.ssh_options.proofs.Imports.{◌≡◌, ◌||◌, ℕ, Bool, true, false, List, [], ◌∷◌, Option, Some, None, refl, if◌then◌else◌, is_some, option_or, AuthOption, Setting, Switch, CertAuthority, NoTouchRequired, VerifyRequired, Command, ExpiryTime, From, Principals, same_flag, same_value_name, first_of, has_flag, setting, settings, LineOptions, noted_after}
 
 -- before the first option
 abbrev pub none_noted : LineOptions
-none_noted = record { authority = false; source = None; principals = None; command = None; expires = false }
+none_noted = record {
+  authority = false;
+  no_touch_required = false;
+  verify_required = false;
+  from = None;
+  principals = None;
+  command = None;
+  expires = false;
+}
 
 or-after : (a b c : Bool) → ((a || (b || false)) || c) ≡ (a || (b || c))
 or-after true b c = refl
@@ -38,7 +45,9 @@ pub noted_one : (before : LineOptions) (option : AuthOption) (options : List Aut
 noted_one before (Switch flag) options =
     rw (
       or-after before.authority (same_flag flag CertAuthority) (has_flag CertAuthority options),
-      or-none before.source (setting From options),
+      or-after before.no_touch_required (same_flag flag NoTouchRequired) (has_flag NoTouchRequired options),
+      or-after before.verify_required (same_flag flag VerifyRequired) (has_flag VerifyRequired options),
+      or-none before.from (setting From options),
       or-none before.principals (setting Principals options),
       or-none before.command (setting Command options),
       or-false before.expires (is_some (setting ExpiryTime options)),
@@ -46,7 +55,9 @@ noted_one before (Switch flag) options =
 noted_one before (Setting name value) options =
     rw (
       or-false before.authority (has_flag CertAuthority options),
-      first-after before.source (same_value_name name From) value (settings From options),
+      or-false before.no_touch_required (has_flag NoTouchRequired options),
+      or-false before.verify_required (has_flag VerifyRequired options),
+      first-after before.from (same_value_name name From) value (settings From options),
       first-after before.principals (same_value_name name Principals) value (settings Principals options),
       first-after before.command (same_value_name name Command) value (settings Command options),
       any-after before.expires (same_value_name name ExpiryTime) value (settings ExpiryTime options),
